@@ -1,0 +1,131 @@
+-- Runs that change no directory, from call to call.
+use Rattle.std.proofs.Common.{◌≡◌, ◌⊎◌, inl, inr, ⊎_elim, ℕ, ◌≤◌, List, Result, Ok, Err, OnOk, OnErr, refl, sym, ◌∙◌, ap, subst, arith}
+use Rattle.std.proofs.lemmas.Bool.Decides.{eqb_tells}
+use Rattle.nn_host.specs.Disk.{Look}
+use Rattle.nn_host.specs.Moments.{Dir, Moment, State, Say, moment, disk_at, faults_at, Stops, Since}
+use Rattle.nn_host.specs.Calls.{Frame, IsCounted, Effect, Called, Said, Cut, Unsaid, Spoke, next_count}
+use Rattle.nn_host.specs.Runs.{Throughout, Undisturbed, Untouched, Looked}
+use Rattle.nn_host.proofs.MomentsLemmas.{since_recorded, since_unrecorded, since_called, moment_recorded, moment_unrecorded, moment_called, frame_trans}
+
+-- runs of any fact
+
+pub throughout_refl : {told : Type 0} {a : State} {Q : Moment → Type 0} → (told → Q a.now) → Throughout told a a Q
+throughout_refl start = record { count = refl; later = λ tells. omega arith; ends = start; each = λ tells t m le since. inl since }
+
+pub throughout_trans : {told : Type 0} {a b c : State} {Q : Moment → Type 0} → Throughout told a b Q → Throughout told b c Q → Throughout told a c Q
+throughout_trans p q = record {
+  count = q.count ∙ p.count;
+  later = λ tells. omega (arith, p.later tells, q.later tells);
+  ends = q.ends;
+  each = λ tells t m le since. ⊎_elim (λ w. p.each tells t m le w) (λ w. inr w) (q.each tells t m (omega (arith, le, p.later tells)) since);
+}
+
+pub throughout_weaker : {told : Type 0} {a b : State} {P Q : Moment → Type 0} → Throughout told a b P → (told → (m : Moment) → P m → Q m) → Throughout told a b Q
+throughout_weaker {b = b} p weaker = record {
+  count = p.count;
+  later = p.later;
+  ends = λ tells. weaker tells b.now (p.ends tells);
+  each = λ tells t m le since. ⊎_elim (λ w. inl w) (λ w. inr (weaker tells m w)) (p.each tells t m le since);
+}
+
+-- runs that change no directory
+
+undisturbed_trans : (a b : State) (m : Moment) → Undisturbed a b.now → Undisturbed b m → Undisturbed a m
+undisturbed_trans a b m p q = record { disks = λ j. q.disks j ∙ p.disks j }
+
+pub untouched_refl : {told : Type 0} {a : State} → Untouched told a a
+untouched_refl = throughout_refl (λ tells. record { disks = λ j. refl })
+
+pub untouched_trans : {told : Type 0} {a b c : State} → Untouched told a b → Untouched told b c → Untouched told a c
+untouched_trans {a = a} {b = b} p q = record {
+  count = q.count ∙ p.count;
+  later = λ tells. omega (arith, p.later tells, q.later tells);
+  ends = λ tells. record { disks = λ j. (q.ends tells).disks j ∙ (p.ends tells).disks j };
+  each = λ tells t m le since. ⊎_elim (λ w. p.each tells t m le w) (λ w. inr (undisturbed_trans a b m (p.ends tells) w)) (q.each tells t m (omega (arith, le, p.later tells)) since);
+}
+
+same_disk : {T E : Type 0} (i : ℕ) (old new : State) (result : Result T E) → Effect i Look old new result → disk_at new i ≡ disk_at old i
+same_disk i old new (Ok v) effect = effect.ok.disk
+same_disk i old new (Err e) effect = ⊎_elim (λ broken. ⊎_elim (λ same. same) (λ same. same) broken.disk) (λ unbegun. unbegun.disk) effect.err
+
+one_look : (i : ℕ) (old new : State) → Frame i old new → disk_at new i ≡ disk_at old i → Undisturbed old new.now
+one_look i old new frame here = record { disks = λ j. at j }
+  where
+    at : (j : ℕ) → disk_at new j ≡ disk_at old j
+    at j = elim (eqb_tells j i) [
+      | inl is ↦ subst (λ (k : ℕ). disk_at new k ≡ disk_at old k) (sym is.1) here
+      | inr differs ↦ ap (λ (d : Dir). d.disk) (frame.now.dirs j differs.1)
+    ]
+
+pub looked_once : {T E told : Type 0} {i : ℕ} {old new : State} {result : Result T E} → Called told i Look old new result → Looked told i old new result
+looked_once {T} {E} {told} {i} {old} {new} {result} called = record {
+  frame = called.frame;
+  counted = called.counted;
+  untouched = record {
+    count = called.frame.count;
+    later = λ tells. moment_called i Look old new result (called.effect tells);
+    ends = at_end;
+    each = λ tells t m le since. ⊎_elim
+        (λ w. inl w)
+        (λ w. ⊎_elim (λ stopped. absurd stopped.1) (λ now. inr (subst (λ (x : Moment). Undisturbed old x) (sym now) (at_end tells))) w)
+        (since_called i Look old new result (called.effect tells) t m le since);
+  };
+  reads = λ tells. same_reads result (called.effect tells);
+}
+  where
+    at_end : told → Undisturbed old new.now
+    at_end tells = one_look i old new called.frame (same_disk i old new result (called.effect tells))
+
+    same_reads : {T E : Type 0} (r : Result T E) → Effect i Look old new r → OnOk r (new.reads i ≡ old.reads i)
+    same_reads (Ok v) effect = effect.ok.reads
+    same_reads (Err e) effect = tt
+
+-- a look that returned, and then further ones
+pub looked_then : {T U E : Type 0} {told : Type 0} {i : ℕ} {a b c : State} {v : U} {result : Result T E} → Looked {T = U} {E = E} told i a b (Ok v) → Looked told i b c result → Looked told i a c result
+looked_then {T} {U} {E} {told} {i} {a} {b} {c} {v} {result} p q = record {
+  frame = frame_trans i a b c p.frame q.frame;
+  counted = record { ok = ok result q.counted; err = err result q.counted };
+  untouched = untouched_trans p.untouched q.untouched;
+  reads = λ tells. reads result (p.reads tells) (q.reads tells);
+}
+  where
+    ok : (r : Result T E) → IsCounted i b c r → OnOk r (faults_at c i ≡ faults_at a i)
+    ok (Ok w) counted = counted.ok ∙ p.counted.ok
+    ok (Err e) counted = tt
+
+    err : (r : Result T E) → IsCounted i b c r → OnErr r (faults_at c i ≡ next_count (faults_at a i))
+    err (Ok w) counted = tt
+    err (Err e) counted = counted.err ∙ ap next_count p.counted.ok
+
+    reads : (r : Result T E) → b.reads i ≡ a.reads i → OnOk r (c.reads i ≡ b.reads i) → OnOk r (c.reads i ≡ a.reads i)
+    reads (Ok w) first second = second ∙ first
+    reads (Err e) first second = tt
+
+-- something was said
+pub untouched_spoke : {T E told : Type 0} {bytes : List ℕ} {old new : State} {result : Result T E} → Spoke told bytes old new result → Untouched told old new
+untouched_spoke {T} {E} {told} {bytes} {old} {new} {result} spoke = record {
+  count = spoke.count;
+  later = λ tells. later result (spoke.ok tells) (spoke.err tells);
+  ends = λ tells. at_end;
+  each = λ tells t m le since. ⊎_elim
+      (λ w. inl w)
+      (λ w. ⊎_elim (λ stopped. inr (same m stopped.0)) (λ now. inr (subst (λ (x : Moment). Undisturbed old x) (sym now) at_end)) w)
+      (moments result (spoke.ok tells) (spoke.err tells) t m le since);
+}
+  where
+    same : (m : Moment) → m.dirs ≡ old.now.dirs → Undisturbed old m
+    same m dirs = record { disks = λ j. ap (λ (f : ℕ → Dir). (f j).disk) dirs }
+
+    at_end : Undisturbed old new.now
+    at_end = same new.now spoke.dirs
+
+    later : (r : Result T E) → OnOk r (Said bytes old new) → OnErr r (Cut bytes old new ⊎ Unsaid old new) → moment old ≤ moment new
+    later (Ok v) ok err = moment_recorded old new (Say bytes) ok.recorded
+    later (Err e) ok err = ⊎_elim (λ cut. moment_recorded old new (Say bytes) cut.recorded) (λ unsaid. moment_unrecorded old new unsaid.unrecorded) err
+
+    moments : (r : Result T E) → OnOk r (Said bytes old new) → OnErr r (Cut bytes old new ⊎ Unsaid old new) → (t : ℕ) (m : Moment) → t ≤ moment old → Since new t m → Since old t m ⊎ (Stops (Say bytes) old.now m ⊎ (m ≡ new.now))
+    moments (Ok v) ok err t m le s = since_recorded old new (Say bytes) ok.recorded t m le s
+    moments (Err e) ok err t m le s = ⊎_elim
+        (λ cut. since_recorded old new (Say bytes) cut.recorded t m le s)
+        (λ unsaid. ⊎_elim (λ w. inl w) (λ now. inr (inr now)) (since_unrecorded old new unsaid.unrecorded t m s))
+        err

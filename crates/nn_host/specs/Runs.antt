@@ -1,0 +1,45 @@
+-- What holds over a run of calls: which directories it touched, and what each moment of it has.
+use Rattle.std.specs.Prelude.{◌≡◌, ◌⊎◌, ◌≤◌, ℕ, Result, OnOk}
+use Rattle.nn_host.specs.Disk.{Disk}
+use Rattle.nn_host.specs.Moments.{Dir, Moment, State, Since, SameBut, moment, disk_at, faults_at}
+use Rattle.nn_host.specs.Calls.{Frame, IsCounted}
+
+-- nothing has changed since but this directory, whose disk has P and whose count of faults hasn't fallen
+pub record AtWork (i : ℕ) (old : State) (m : Moment) (P : Disk → Type 0) : Type 0 where
+  pub others : SameBut i old.now m
+  pub disk : P (m.dirs i).disk
+  pub counted : faults_at old i ≤ (m.dirs i).faults
+
+-- from old to new this directory alone was touched: at each moment its disk has P, and its count of faults hasn't fallen
+pub record OnlyAt (told : Type 0) (i : ℕ) (old new : State) (P : Disk → Type 0) : Type 0 where
+  pub frame : Frame i old new
+  pub counted : faults_at old i ≤ faults_at new i
+  pub later : told → moment old ≤ moment new
+  pub ends : told → P (disk_at new i)
+  pub each : told → (t : ℕ) (m : Moment) → t ≤ moment old → Since new t m → Since old t m ⊎ AtWork i old m P
+
+-- from old to new each moment has Q
+pub record Throughout (told : Type 0) (old new : State) (Q : Moment → Type 0) : Type 0 where
+  pub count : new.count ≡ old.count
+  pub later : told → moment old ≤ moment new
+  pub ends : told → Q new.now
+  pub each : told → (t : ℕ) (m : Moment) → t ≤ moment old → Since new t m → Since old t m ⊎ Q m
+
+-- each directory has its own fact
+pub record EachDir (K : ℕ → Dir → Type 0) (m : Moment) : Type 0 where
+  pub at : (j : ℕ) → K j (m.dirs j)
+
+-- the disk of each directory is as it was in this state
+pub record Undisturbed (old : State) (m : Moment) : Type 0 where
+  pub disks : (j : ℕ) → (m.dirs j).disk ≡ (old.now.dirs j).disk
+
+-- from old to new no directory was changed: a stop at any moment leaves of each what a stop at the beginning could leave
+abbrev pub Untouched : Type 0 → State → State → Type 0
+Untouched told old new = Throughout told old new (Undisturbed old)
+
+-- from old to new this directory alone was looked at, and nothing was said
+pub record Looked {T E : Type 0} (told : Type 0) (i : ℕ) (old new : State) (result : Result T E) : Type 0 where
+  pub frame : Frame i old new
+  pub counted : IsCounted i old new result
+  pub untouched : Untouched told old new
+  pub reads : told → OnOk result (new.reads i ≡ old.reads i)
