@@ -1,10 +1,10 @@
 -- Runs that change no directory, from call to call.
 use Rattle.std.proofs.Common.{◌≡◌, ◌⊎◌, inl, inr, ⊎_elim, ℕ, ◌≤◌, List, Bool, true, false, if◌then◌else◌, Result, Ok, Err, OnOk, OnErr, IsErr, is_ok, refl, sym, ◌∙◌, ap, subst, arith}
 use Rattle.std.proofs.lemmas.Bool.Decides.{eqb_tells}
-use Rattle.nn_host.specs.Disk.{Look}
+use Rattle.nn_host.specs.Disk.{Reads, Look}
 use Rattle.nn_host.specs.Moments.{Dir, Moment, State, Say, moment, disk_at, faults_at, Stops, Since}
 use Rattle.nn_host.specs.Calls.{Frame, IsCounted, Effect, Called, Said, Cut, Unsaid, Spoke, next_count}
-use Rattle.nn_host.specs.Runs.{Throughout, Undisturbed, Untouched, Looked}
+use Rattle.nn_host.specs.Runs.{Throughout, Undisturbed, Untouched, Looked, AllAnswered}
 use Rattle.nn_host.proofs.MomentsLemmas.{since_recorded, since_unrecorded, since_called, moment_recorded, moment_unrecorded, moment_called, frame_trans}
 
 -- runs of any fact
@@ -126,3 +126,44 @@ untouched_spoke {T} {E} {told} {bytes} {old} {new} {result} spoke = record {
         (λ cut. since_recorded old new (Say bytes) cut.recorded t m le s)
         (λ unsaid. ⊎_elim (λ w. inl w) (λ now. inr (inr now)) (since_unrecorded old new unsaid.unrecorded t m s))
         err
+
+-- runs in which each call was answered
+
+pub all_answered_refl : {told : Type 0} {a : State} → AllAnswered told a a
+all_answered_refl = record { untouched = untouched_refl; faults = λ j. refl; out_faults = refl; reads = λ tells j. refl }
+
+pub all_answered_trans : {told : Type 0} {a b c : State} → AllAnswered told a b → AllAnswered told b c → AllAnswered told a c
+all_answered_trans p q = record {
+  untouched = untouched_trans p.untouched q.untouched;
+  faults = λ j. q.faults j ∙ p.faults j;
+  out_faults = q.out_faults ∙ p.out_faults;
+  reads = λ tells j. q.reads tells j ∙ p.reads tells j;
+}
+
+pub all_answered_looked : {told : Type 0} {i : ℕ} {a b : State} → Looked told i a b true → AllAnswered told a b
+all_answered_looked {told} {i} {a} {b} p = record {
+  untouched = p.untouched;
+  faults = λ j. at j;
+  out_faults = p.frame.now.out_faults;
+  reads = λ tells j. reads_at tells j;
+}
+  where
+    at : (j : ℕ) → faults_at b j ≡ faults_at a j
+    at j = elim (eqb_tells j i) [
+      | inl is ↦ subst (λ (k : ℕ). faults_at b k ≡ faults_at a k) (sym is.1) p.counted
+      | inr differs ↦ ap (λ (d : Dir). d.faults) (p.frame.now.dirs j differs.1)
+    ]
+
+    reads_at : told → (j : ℕ) → b.reads j ≡ a.reads j
+    reads_at tells j = elim (eqb_tells j i) [
+      | inl is ↦ subst (λ (k : ℕ). b.reads k ≡ a.reads k) (sym is.1) (p.reads tells refl)
+      | inr differs ↦ p.frame.reads j differs.1
+    ]
+
+pub all_answered_spoke : {T E told : Type 0} {bytes : List ℕ} {a b : State} {v : T} → Spoke {T = T} {E = E} told bytes a b (Ok v) → AllAnswered told a b
+all_answered_spoke {T} {E} {told} {bytes} {a} {b} {v} spoke = record {
+  untouched = untouched_spoke spoke;
+  faults = λ j. ap (λ (f : ℕ → Dir). (f j).faults) spoke.dirs;
+  out_faults = spoke.counted_ok;
+  reads = λ tells j. ap (λ (f : ℕ → Reads). f j) spoke.reads;
+}

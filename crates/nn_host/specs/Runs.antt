@@ -43,3 +43,10 @@ pub record Looked (told : Type 0) (i : ℕ) (old new : State) (answered : Bool) 
   pub counted : faults_at new i ≡ (if answered then faults_at old i else next_count (faults_at old i))
   pub untouched : Untouched told old new
   pub reads : told → answered ≡ true → new.reads i ≡ old.reads i
+
+-- from old to new each call was answered, and no directory was changed
+pub record AllAnswered (told : Type 0) (old new : State) : Type 0 where
+  pub untouched : Untouched told old new
+  pub faults : (j : ℕ) → faults_at new j ≡ faults_at old j
+  pub out_faults : new.now.out_faults ≡ old.now.out_faults
+  pub reads : told → (j : ℕ) → new.reads j ≡ old.reads j
