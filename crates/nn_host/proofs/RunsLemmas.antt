@@ -1,5 +1,6 @@
 -- Runs that change no directory, from call to call.
-use Rattle.std.proofs.Common.{◌≡◌, ◌⊎◌, inl, inr, ⊎_elim, ℕ, ◌≤◌, List, Bool, true, false, if◌then◌else◌, Result, Ok, Err, OnOk, OnErr, IsErr, is_ok, refl, sym, ◌∙◌, ap, subst, arith}
+use Rattle.std.proofs.lemmas.List.{append-nil}
+use Rattle.std.proofs.Common.{◌≡◌, ◌⊎◌, inl, inr, ⊎_elim, ℕ, ◌≤◌, List, ◌++◌, take, Bool, true, false, if◌then◌else◌, Result, Ok, Err, OnOk, OnErr, IsErr, is_ok, refl, sym, ◌∙◌, ap, subst, arith}
 use Rattle.std.proofs.lemmas.Bool.Decides.{eqb_tells}
 use Rattle.nn_host.specs.Disk.{Reads, Look}
 use Rattle.nn_host.specs.Moments.{Dir, Moment, State, Say, moment, disk_at, faults_at, Stops, Since}
@@ -126,6 +127,10 @@ untouched_spoke {T} {E} {told} {bytes} {old} {new} {result} spoke = record {
         (λ cut. since_recorded old new (Say bytes) cut.recorded t m le s)
         (λ unsaid. ⊎_elim (λ w. inl w) (λ now. inr (inr now)) (since_unrecorded old new unsaid.unrecorded t m s))
         err
+
+-- an output that failed took a front of the bytes
+pub spoke_front : {T E told : Type 0} {bytes : List ℕ} {old new : State} {e : E} → Spoke {T = T} {E = E} told bytes old new (Err e) → told → (n : ℕ) × (new.now.said ≡ old.now.said ++ take n bytes)
+spoke_front {old = old} spoke tells = ⊎_elim (λ cut. cut.said) (λ unsaid. (0, unsaid.said ∙ sym (append-nil old.now.said))) (spoke.err tells)
 
 -- runs in which each call was answered
 

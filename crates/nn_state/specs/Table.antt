@@ -54,5 +54,5 @@ abbrev pub first_row : List Row → Result StorageState Why
 first_row [] = Err SeveralTmp
 first_row (row ∷ later) = if row.0 then row.1 else first_row later
 
-abbrev pub table_of : Seven → Result StorageState Why
+unfoldable pub table_of : Seven → Result StorageState Why
 table_of s = first_row (rows s)
