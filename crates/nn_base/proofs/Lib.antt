@@ -2,3 +2,4 @@ pub mod DecimalLemmas
 pub mod FileTextLemmas
 pub mod NamesLemmas
 pub mod PaddedLemmas
+pub mod PathsLemmas

@@ -1,10 +1,13 @@
-//! The words of a name directory: its number, transaction ids, subfolders and the names of files.
+//! The words of a name directory: its number, transaction ids, subfolders and the names of files; and those of the namespace: names, paths, owners and groups.
 //! It knows nothing of what a folder or a file holds, nor of any disk.
 #![tactic(auto)]
 
 pub mod decimal;
 mod file_name;
 mod ids;
+mod label;
+mod name;
+mod path;
 mod sub;
 #[cfg(test)]
 mod tests;
@@ -12,5 +15,8 @@ mod word;
 
 pub use file_name::FileName;
 pub use ids::{DirNo, FirstTxid, NoMemory, Span, Txid};
+pub use label::Label;
+pub use name::Name;
+pub use path::Path;
 pub use sub::Sub;
 pub use word::Word;

@@ -1,0 +1,66 @@
+-- The front of a path is a path.
+use Rattle.std.proofs.Common.{◌≡◌, ◌≤◌, ◌<◌, ◌+◌, ℕ, zero, suc, Bool, true, false, not, ◌||◌, nat_lt, refl, List, [], ◌∷◌, ◌++◌, length, take, ap, sym, subst, ◌∙◌, arith, ◌*◌, length-append, get_or}
+use Rattle.std.specs.Prelude.{All}
+use Rattle.std.proofs.lemmas.Bool.Decides.{nat_tests}
+use Rattle.std.proofs.lemmas.List.Elements.{All-take, All-push}
+use Rattle.std.proofs.lemmas.List.{take_more, take_all}
+use Rattle.nn_base.specs.Paths.{Names, Bytes, IsPath, is_name, is_bad_name, has_slash, joined}
+
+-- the text of more names is longer
+joined-take : (n : ℕ) (names : Names) → length (joined (take n names)) ≤ length (joined names)
+joined-take zero names = omega arith
+joined-take (suc n) [] = omega arith
+joined-take (suc n) (x ∷ names) =
+    omega (arith, joined-take n names, length-append x (joined (take n names)), length-append x (joined names))
+
+pub take_is_path : (n : ℕ) (names : Names) → IsPath names → IsPath (take n names)
+take_is_path n names path = record {
+  named = All-take (λ name. is_name name ≡ true) n names path.named;
+  levels = omega (arith, shorter n names, path.levels);
+  size = omega (arith, joined-take n names, path.size);
+}
+  where
+    shorter : (n : ℕ) (names : Names) → length (take n names) ≤ length names
+    shorter zero names = omega arith
+    shorter (suc n) [] = omega arith
+    shorter (suc n) (x ∷ names) = omega (arith, shorter n names)
+
+-- the text of one name more
+pub joined_push : (names : Names) (x : Bytes) → length (joined (names ++ x ∷ [])) ≡ length (joined names) + (1 + length x)
+joined_push [] x = omega (arith, length-append x [])
+joined_push (y ∷ names) x =
+    omega (arith, joined_push names x, length-append y (joined (names ++ x ∷ [])), length-append y (joined names))
+
+-- a name has at most 255 bytes
+pub name_is_short : (x : Bytes) → is_name x ≡ true → length x ≤ 255
+name_is_short x h = by (is_bad_name x) (nat_lt 255 (length x)) (has_slash x) refl h
+  where
+    by : (bad long slash : Bool) → nat_lt 255 (length x) ≡ long → not (bad || long || slash) ≡ true → length x ≤ 255
+    by true long slash is h = cc
+    by false true slash is h = cc
+    by false false slash is h = grind (arith, nat_tests)
+
+-- what the first names of a list show, once one more was read
+pub record Read (names : Names) (k size : ℕ) : Type 0 where
+  pub named : All (λ name. is_name name ≡ true) (take k names)
+  pub text : size ≡ length (joined (take k names))
+  pub few : size ≤ 256 * k
+
+pub read_more : (names : Names) (k size : ℕ) (x : Bytes) → k < length names → x ≡ get_or names k x → is_name x ≡ true → Read names k size → Read names (k + 1) (size + (1 + length x))
+read_more names k size x within is name r =
+    let e : take (k + 1) names ≡ take k names ++ x ∷ [] = take_more names k x within ∙ ap (λ y. take k names ++ y ∷ []) (sym is) in
+    record {
+      named = subst (λ (t : Names). All (λ name. is_name name ≡ true) t) (sym e) (All-push (λ name. is_name name ≡ true) (take k names) x r.named name);
+      text = let s = r.text in let z = joined_push (take k names) x in omega (arith, ap (λ t. length (joined t)) e);
+      few = let f = r.few in let z = name_is_short x name in omega arith;
+    }
+
+-- once all were read
+pub all_read : (names : Names) (k size : ℕ) → Read names k size → length names ≤ k → length names ≤ 1000 → size ≤ 8000 → IsPath names
+all_read names k size r all levels small =
+    let e : take k names ≡ names = take_all k names all in
+    record {
+      named = subst (λ (t : Names). All (λ name. is_name name ≡ true) t) e r.named;
+      levels = levels;
+      size = omega (arith, r.text, ap (λ t. length (joined t)) e);
+    }

@@ -1,0 +1,126 @@
+// A place in the namespace.
+ghost use Rattle.std.specs.Prelude.{◌≡◌, ◌-◌, ◌<◌, Some, [], length, take, slice_get, IfOk};
+ghost use Rattle.std.specs.Option.{SomeIff};
+ghost use Rattle.nn_base.specs.Paths.{IsPath};
+
+use crate::{Name, NoMemory};
+use std::alloc::Global;
+use std::marker::Model;
+
+/// A path, as its names from the root. It has at most 1,000 levels and 8,000 bytes of text, the limits of HDFS (`MAX_PATH_DEPTH`, `MAX_PATH_LENGTH`).
+#[derive(Drop)]
+pub struct Path {
+    names: Vec<Name>,
+}
+
+impl Model for Path {
+    ghost use Rattle.std.specs.Prelude.{List, ℕ};
+    ghost use Rattle.nn_base.specs.Paths.{IsPath};
+
+    ghost Value = { List (List ℕ) };
+
+    ghost view = { λ a. a.names.items };
+
+    ghost invariant = { λ a. IsPath a.names.items };
+}
+
+impl Path {
+    /// The root, which takes no memory.
+    pub fn root(alloc: Global) -> Path
+        ensures { result ≡ [] }
+    {
+        Path {
+            names: Vec::new(alloc),
+        }
+    }
+
+    /// The path of these names. `None` stands for more than 1,000 levels or 8,000 bytes of text.
+    pub fn of(names: Vec<Name>) -> Option<Path>
+        ensures { SomeIff result (IsPath names.items) names.items }
+    {
+        if 1000 < names.len() {
+            return None;
+        }
+        let mut size = 0;
+        for name in &names {
+            size += 1 + name.bytes().len();
+        }
+        if 8000 < size {
+            return None;
+        }
+        Some(Path { names })
+    }
+
+    /// How many names it has; the root has none.
+    pub fn depth(&self) -> usize
+        ensures value { result ≡ length self.now }
+        ensures path { IsPath self.now }
+    {
+        self.names.len()
+    }
+
+    /// The name at a level, counted from 0 below the root.
+    pub fn name(&self, k: usize) -> &Name
+        requires { k < length self.now }
+        ensures { slice_get self.now k ≡ Some result.now }
+    {
+        &self.names[k]
+    }
+
+    /// The path of the directory above.
+    pub fn parent(&self, alloc: Global) -> Result<Path, NoMemory>
+        requires { 0 < length self.now }
+        ensures { IfOk result (λ p. p ≡ take (length self.now - 1) self.now) }
+    {
+        let mut names = Vec::new(alloc);
+        for name in &self.names[..self.names.len() - 1] {
+            names.push(name.copy(alloc)?)?;
+        }
+        Ok(Path { names })
+    }
+}
+
+#[cfg(test)]
+mod tests {
+    use super::*;
+    use crate::Label;
+    use std::test::Fail;
+
+    #[test]
+    fn names_labels_and_paths_take_what_their_form_allows(rt: HostRuntime) -> Result<(), Fail> {
+        let alloc = rt.alloc();
+        let long = vec![in alloc; b'a'; 256]?;
+        assert_eq!(rt; long.len(), 256);
+        let names: [(&[u8], bool); 10] = [
+            (b"a", true),
+            (b"...", true),
+            (&long[..255], true),
+            (&long, false),
+            (b"", false),
+            (b".", false),
+            (b"..", false),
+            (b"a/b", false),
+            (b"a:b", false),
+            (b"a\0", false),
+        ];
+        for (bytes, is_name) in names {
+            assert_eq!(rt; Name::of(alloc, bytes)?.is_some(), is_name, "at {bytes:?}");
+        }
+        for (bytes, is_label) in [(0, false), (1, true), (32, true), (33, false)] {
+            assert_eq!(rt; Label::of(&long[..bytes]).is_some(), is_label, "at {bytes}");
+        }
+
+        let mut names = Vec::new(alloc);
+        for bytes in [b"user", b"hdfs"] {
+            names.push(Name::of(alloc, bytes)?.ok_or("a name")?.copy(alloc)?)?;
+        }
+        let path = Path::of(names).ok_or("a path")?;
+        assert_eq!(rt; path.depth(), 2);
+        assert_eq!(rt; path.name(1).bytes(), b"hdfs".as_slice());
+        let parent = path.parent(alloc)?;
+        assert_eq!(rt; parent.depth(), 1);
+        assert_eq!(rt; parent.name(0).bytes(), b"user".as_slice());
+        assert_eq!(rt; Path::root(alloc).depth(), 0);
+        Ok(())
+    }
+}
