@@ -1,2 +1,3 @@
 pub mod MomentsLemmas
 pub mod RunsLemmas
+pub mod LeavesLemmas

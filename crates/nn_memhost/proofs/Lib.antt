@@ -1,0 +1,5 @@
+pub mod KeptLemmas
+pub mod PastLemmas
+pub mod Calls
+pub mod Saying
+pub mod Anew

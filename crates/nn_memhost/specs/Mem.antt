@@ -1,0 +1,37 @@
+-- What a host in memory means, and which of its calls fail.
+use Rattle.std.specs.Prelude.{◌≡◌, ◌⊎◌, ◌<◌, ℕ, List, [], ◌++◌, take, length, Option, None, Result, OnOk, OnErr, IsSome}
+use Rattle.nn_host.specs.Moments.{Moment, State, moment}
+use Rattle.nn_host.specs.Calls.{next_count}
+use Rattle.nn_memhost.specs.declared.past.Part.{Part}
+use Rattle.nn_memhost.specs.declared.mem.MemHost.{MemHost}
+use Rattle.nn_memhost.specs.Counts.{no_faults}
+use Rattle.nn_memhost.specs.Part.{part_at, taken_of}
+use Rattle.nn_memhost.specs.Past.{Past, start, run, state_of, moment_of, bare, all_certain}
+
+-- where the record of calls begins: the contents, what was said and the counts as of then
+abbrev pub start_of : MemHost → Past
+start_of m = start m.dirs.items (take m.said_before m.said.items) m.began
+
+-- the record of calls, over the contents at its beginning
+abbrev pub mem_state : MemHost → State
+mem_state m = state_of (run (start_of m) m.calls.items) m.counts (length m.dirs.items)
+
+-- what the list says that the next call leaves, if it names it
+abbrev pub next_part : MemHost → Option Part
+next_part m = part_at (length m.calls.items) m.fails.items
+
+-- a host of so many directories with all roots, nothing in them and no faults
+abbrev pub new_state : ℕ → State
+new_state count =
+    let now : Moment = moment_of (record { disks = λ j. all_certain bare; reads = λ j. bare; said = [] }) no_faults in
+    record { now = now; ended = now; reads = λ j. bare; count = count; trace = [] }
+
+-- the call failed exactly where the list names it, or where there was no memory for it; the count of the latter stays at its last value
+pub record FailsAsListed {T E : Type 0} (old new : MemHost) (result : Result T E) : Type 0 where
+  pub ok : OnOk result ((next_part old ≡ None) × (new.starved ≡ old.starved))
+  pub err : OnErr result ((IsSome (next_part old) × (new.starved ≡ old.starved)) ⊎ (new.starved ≡ next_count old.starved))
+  pub fails : new.fails ≡ old.fails
+
+-- where the call was recorded, the output took of these bytes what the list says
+pub record SaysAsListed (bytes : List ℕ) (old new : MemHost) : Type 0 where
+  pub said : moment (mem_state old) < moment (mem_state new) → (mem_state new).now.said ≡ (mem_state old).now.said ++ take (taken_of (next_part old) bytes) bytes

@@ -1,0 +1,11 @@
+//! A host in memory that tells everything: its calls fail where its list says so, and it keeps a record of all of them.
+//! It knows nothing of real folders, nor of what the files mean.
+#![tactic(auto)]
+
+mod counts;
+mod kept;
+mod mem;
+mod past;
+
+pub use mem::MemHost;
+pub use past::Part;
