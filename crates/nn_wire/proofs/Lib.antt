@@ -1,0 +1,2 @@
+pub mod Crc32Lemmas
+pub mod TableLemmas
