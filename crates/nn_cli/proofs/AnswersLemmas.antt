@@ -1,5 +1,5 @@
 -- From what was said before the last line to what was said in all.
-use Rattle.std.proofs.Common.{◌≡◌, ◌≢◌, ◌⊎◌, inl, inr, ⊎_elim, ℕ, ◌≤◌, List, [], ◌++◌, take, drop, Option, Some, None, refl, sym, ◌∙◌, ap, subst, arith, append_assoc}
+use Rattle.std.proofs.Common.{◌≡◌, ◌≢◌, ◌⊎◌, inl, inr, ⊎_elim, ℕ, List, ◌++◌, take, drop, Option, Some, None, refl, sym, ◌∙◌, ap, subst, arith, append_assoc}
 use Rattle.std.proofs.lemmas.List.{append-nil, take-append-drop}
 use Rattle.nn_host.specs.Disk.{Reads}
 use Rattle.nn_host.specs.Moments.{State}
@@ -20,13 +20,13 @@ lines_front words dirs n lines later reading split = go (first_refusal dirs n) r
   where
     go : (first : Option Refusal) → first_refusal dirs n ≡ first → SaysFront words dirs n lines
     go None is = (Ok, state_lines dirs n, later, ((λ e. cc), (state_lines dirs n, (reading, (is, refl)), sym (append-nil (state_lines dirs n)))), split)
-    go (Some refusal) is =
-        ( Refused refusal,
-          state_lines dirs n ++ last_line (Refused refusal),
-          later ++ last_line (Refused refusal),
-          ((λ e. cc), (state_lines dirs n, (reading, (is, refl)), refl)),
-          ap (λ (l : List ℕ). l ++ last_line (Refused refusal)) split ∙ append_assoc lines later (last_line (Refused refusal))
-        )
+    go (Some refusal) is = (
+      Refused refusal,
+      state_lines dirs n ++ last_line (Refused refusal),
+      later ++ last_line (Refused refusal),
+      ((λ e. cc), (state_lines dirs n, (reading, (is, refl)), refl)),
+      ap (λ (l : List ℕ). l ++ last_line (Refused refusal)) split ∙ append_assoc lines later (last_line (Refused refusal)),
+    )
 
 -- want of memory may take the place of any status but that of a failed output
 starves : (words : List Word) (dirs : ℕ → Reads) (n : ℕ) (status : Status) (lines : List ℕ) → status ≢ OutFault → Before words dirs n status lines → Before words dirs n Memory lines
@@ -52,26 +52,29 @@ closes_says : {told : Type 0} (words : List Word) (a b c : State) (status result
 closes_says {told} words a b c status result ne lines said before closes tells =
     let last = closes.0 in
     let means : Means words a.reads a.count last (lines ++ last_line last) =
-          (last_is_meant status last ne closes.1, (lines, last_before words a.reads a.count status last lines ne closes.1 before, refl)) in
+    (last_is_meant status last ne closes.1, (lines, last_before words a.reads a.count status last lines ne closes.1 before, refl)) in
     ⊎_elim
-      (λ (ends : EndsBy told b c last result).
-        ( lines ++ last_line last,
-          ends.said tells ∙ ap (λ (l : List ℕ). l ++ last_line last) said ∙ append_assoc a.now.said lines (last_line last),
-          inl (subst (λ (s : Status). Means words a.reads a.count s (lines ++ last_line last)) (sym ends.status) means)
-        ))
-      (λ (fails : FailsOver told b c last result).
-        let n = (fails.said tells).0 in
-        ( lines ++ take n (last_line last),
-          (fails.said tells).1 ∙ ap (λ (l : List ℕ). l ++ take n (last_line last)) said ∙ append_assoc a.now.said lines (take n (last_line last)),
-          inr ( fails.status,
-            ( last,
-              lines ++ last_line last,
-              drop n (last_line last),
-              means,
-              ap (λ (l : List ℕ). lines ++ l) (sym (take-append-drop n (last_line last))) ∙ sym (append_assoc lines (take n (last_line last)) (drop n (last_line last)))
-            ))
-        ))
-      closes.2
+    (λ (ends : EndsBy told b c last result). (
+      lines ++ last_line last,
+      ends.said tells ∙ ap (λ (l : List ℕ). l ++ last_line last) said ∙ append_assoc a.now.said lines (last_line last),
+      inl (subst (λ (s : Status). Means words a.reads a.count s (lines ++ last_line last)) (sym ends.status) means),
+    ))
+    (λ (fails : FailsOver told b c last result).
+    let n = (fails.said tells).0 in (
+      lines ++ take n (last_line last),
+      (fails.said tells).1 ∙ ap (λ (l : List ℕ). l ++ take n (last_line last)) said ∙ append_assoc a.now.said lines (take n (last_line last)),
+      inr (
+        fails.status,
+        (
+          last,
+          lines ++ last_line last,
+          drop n (last_line last),
+          means,
+          ap (λ (l : List ℕ). lines ++ l) (sym (take-append-drop n (last_line last))) ∙ sym (append_assoc lines (take n (last_line last)) (drop n (last_line last))),
+        ),
+      ),
+    ))
+    closes.2
 
 -- the output failed before
 out_before : (words : List Word) (dirs : ℕ → Reads) (n : ℕ) (lines : List ℕ) → Before words dirs n OutFault lines → Says words dirs n OutFault lines
@@ -84,11 +87,11 @@ ends_says words a b c Usage result lines said before ends tells = closes_says wo
 ends_says words a b c (Refused refusal) result lines said before ends tells = closes_says words a b c (Refused refusal) result (λ e. cc) lines said before ends tells
 ends_says words a b c (HostFault i) result lines said before ends tells = closes_says words a b c (HostFault i) result (λ e. cc) lines said before ends tells
 ends_says words a b c Memory result lines said before ends tells = closes_says words a b c Memory result (λ e. cc) lines said before ends tells
-ends_says words a b c OutFault result lines said before ends tells =
-    ( lines,
-      ap (λ (s : State). s.now.said) ends.1 ∙ said,
-      subst (λ (s : Status). Says words a.reads a.count s lines) (sym ends.0) (out_before words a.reads a.count lines before)
-    )
+ends_says words a b c OutFault result lines said before ends tells = (
+  lines,
+  ap (λ (s : State). s.now.said) ends.1 ∙ said,
+  subst (λ (s : Status). Says words a.reads a.count s lines) (sym ends.0) (out_before words a.reads a.count lines before),
+)
 
 -- the output has not failed yet
 out_same : (told : Type 0) (a b : State) (status : Status) → status ≢ OutFault → IsCausedBy told a b status → b.now.out_faults ≡ a.now.out_faults
@@ -110,13 +113,13 @@ caused_then a b c OutFault ne cause later = absurd (ne refl)
 closes_caused : {told : Type 0} (a b c : State) (status result : Status) → status ≢ OutFault → IsCausedBy told a b status → Closes told b c status result → IsCausedBy told a c result
 closes_caused {told} a b c status result ne cause closes = ⊎_elim
     (λ (ends : EndsBy told b c closes.0 result).
-      subst (λ (s : Status). IsCausedBy told a c s) (sym ends.status)
-        (⊎_elim
-          (λ same. subst (λ (s : Status). IsCausedBy told a c s) (sym same) (caused_then a b c status ne cause ends.answered))
-          (λ memory. subst (λ (s : Status). IsCausedBy told a c s) (sym memory) (ends.answered.out_faults ∙ out_same told a b status ne cause))
-          closes.1))
+    subst (λ (s : Status). IsCausedBy told a c s) (sym ends.status)
+    (⊎_elim
+    (λ same. subst (λ (s : Status). IsCausedBy told a c s) (sym same) (caused_then a b c status ne cause ends.answered))
+    (λ memory. subst (λ (s : Status). IsCausedBy told a c s) (sym memory) (ends.answered.out_faults ∙ out_same told a b status ne cause))
+    closes.1))
     (λ (fails : FailsOver told b c closes.0 result).
-      subst (λ (s : Status). IsCausedBy told a c s) (sym fails.status) (fails.counted ∙ ap next_count (out_same told a b status ne cause)))
+    subst (λ (s : Status). IsCausedBy told a c s) (sym fails.status) (fails.counted ∙ ap next_count (out_same told a b status ne cause)))
     closes.2
 
 pub ends_caused : (told : Type 0) (a b c : State) (status result : Status) → IsCausedBy told a b status → Ends told b c status result → IsCausedBy told a c result

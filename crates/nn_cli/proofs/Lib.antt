@@ -1,2 +1,3 @@
-mod StatesLemmas
 mod AnswersLemmas
+mod StatesLemmas
+pub mod WordsLemmas

@@ -1,9 +1,9 @@
 -- From directory to directory: what `state` has said and found so far.
 use Rattle.std.proofs.lemmas.Bool.Decides.{eqb_tells}
-use Rattle.std.proofs.Common.{◌≡◌, ◌≢◌, inl, inr, ℕ, zero, suc, ◌+◌, ◌<◌, ◌≤◌, List, [], ◌++◌, take, drop, Option, Some, None, Result, Ok, Err, refl, sym, ◌∙◌, ap, subst, arith, append_assoc, add-one}
+use Rattle.std.proofs.Common.{◌≡◌, ◌≢◌, inl, inr, ℕ, zero, suc, ◌+◌, ◌<◌, ◌≤◌, List, [], ◌++◌, take, drop, Option, None, Result, refl, sym, ◌∙◌, ap, arith, append_assoc, add-one}
 use Rattle.std.proofs.lemmas.List.{append-nil, take-append-drop}
 use Rattle.nn_host.specs.Disk.{Reads}
-use Rattle.nn_host.specs.Moments.{State, faults_at}
+use Rattle.nn_host.specs.Moments.{State}
 use Rattle.nn_host.specs.Calls.{next_count}
 use Rattle.nn_host.specs.Runs.{AllAnswered}
 use Rattle.nn_host.proofs.RunsLemmas.{all_answered_refl, all_answered_trans}
@@ -46,8 +46,8 @@ lines_split dirs k zero le = ([], ap (state_lines dirs) (let none : zero ≡ k =
 lines_split dirs k (suc n) le = elim (eqb_tells k (suc n)) [
   | inl same ↦ ([], ap (state_lines dirs) (sym same.1) ∙ sym (append-nil (state_lines dirs k)))
   | inr other ↦
-    let before = lines_split dirs k n (omega (arith, other.1)) in
-    (before.0 ++ state_line n (found dirs n), ap (λ (l : List ℕ). l ++ state_line n (found dirs n)) before.1 ∙ append_assoc (state_lines dirs k) before.0 (state_line n (found dirs n)))
+      let before = lines_split dirs k n (omega (arith, other.1)) in
+      (before.0 ++ state_line n (found dirs n), ap (λ (l : List ℕ). l ++ state_line n (found dirs n)) before.1 ∙ append_assoc (state_lines dirs k) before.0 (state_line n (found dirs n)))
 ]
 
 -- part of the next line stands before what the lines of all directories go on with
@@ -55,12 +55,12 @@ line_split : (dirs : ℕ → Reads) (k n m : ℕ) → k < n → (later : List �
 line_split dirs k n m below =
     let line = state_line k (found dirs k) in
     let whole = lines_split dirs (suc k) n (omega (arith, below)) in
-    let halves : line ≡ take m line ++ drop m line = sym (take-append-drop m line) in
-    ( drop m line ++ whole.0,
+    let halves : line ≡ take m line ++ drop m line = sym (take-append-drop m line) in (
+      drop m line ++ whole.0,
       whole.1
-      ∙ (λ i. (state_lines dirs k ++ halves i) ++ whole.0)
-      ∙ ap (λ (l : List ℕ). l ++ whole.0) (sym (append_assoc (state_lines dirs k) (take m line) (drop m line)))
-      ∙ append_assoc (state_lines dirs k ++ take m line) (drop m line) whole.0
+          ∙ (λ i. (state_lines dirs k ++ halves i) ++ whole.0)
+          ∙ ap (λ (l : List ℕ). l ++ whole.0) (sym (append_assoc (state_lines dirs k) (take m line) (drop m line)))
+          ∙ append_assoc (state_lines dirs k ++ take m line) (drop m line) whole.0,
     )
 
 -- what a run says and which count rises where the next directory's line isn't said whole
@@ -75,27 +75,28 @@ so_far_falls {told} {k} {a} {b} {first} c end so_far below falls = go end falls
     go status.Ok falls = absurd falls
     go status.Usage falls = absurd falls
     go (status.Refused refusal) falls = absurd falls
-    go (status.HostFault j) falls =
-        ( (λ tells. (state_lines a.reads k, falls.3 tells ∙ so_far.said tells, (rw falls.0 below, ap (state_lines a.reads) (sym falls.0)))),
-          ( rw falls.0 below,
-            rw falls.0 (falls.1 ∙ ap next_count (so_far.answered.faults k)),
-            falls.2 ∙ so_far.answered.out_faults
-          )
-        )
-    go status.Memory falls =
-        ( (λ tells. (state_lines a.reads k, falls.1 tells ∙ so_far.said tells, (k, omega (arith, below), refl))),
-          falls.0.out_faults ∙ so_far.answered.out_faults
-        )
-    go status.OutFault falls =
-        ( (λ tells.
-            let front = falls.1 tells in
-            let line = take front.0 (state_line k (found a.reads k)) in
-            ( state_lines a.reads k ++ line,
-              front.1 ∙ (λ i. so_far.said tells i ++ take front.0 (state_line k (same tells i))) ∙ append_assoc a.now.said (state_lines a.reads k) line,
-              line_split a.reads k a.count front.0 below
-            )),
-          falls.0 ∙ ap next_count so_far.answered.out_faults
-        )
+    go (status.HostFault j) falls = (
+      (λ tells. (state_lines a.reads k, falls.3 tells ∙ so_far.said tells, (rw falls.0 below, ap (state_lines a.reads) (sym falls.0)))),
+      (
+        rw falls.0 below,
+        rw falls.0 (falls.1 ∙ ap next_count (so_far.answered.faults k)),
+        falls.2 ∙ so_far.answered.out_faults,
+      ),
+    )
+    go status.Memory falls = (
+      (λ tells. (state_lines a.reads k, falls.1 tells ∙ so_far.said tells, (k, omega (arith, below), refl))),
+      falls.0.out_faults ∙ so_far.answered.out_faults,
+    )
+    go status.OutFault falls = (
+      (λ tells.
+          let front = falls.1 tells in
+          let line = take front.0 (state_line k (found a.reads k)) in (
+            state_lines a.reads k ++ line,
+            front.1 ∙ (λ i. so_far.said tells i ++ take front.0 (state_line k (same tells i))) ∙ append_assoc a.now.said (state_lines a.reads k) line,
+            line_split a.reads k a.count front.0 below,
+          )),
+      falls.0 ∙ ap next_count so_far.answered.out_faults,
+    )
 
 pub falls_read : (told : Type 0) (k : ℕ) (b c : State) (end : Status) → Falls told k b c end → end ≢ status.Usage
 falls_read told k b c status.Ok falls e = falls

@@ -1,12 +1,12 @@
 -- What a run of the program says in all, and which counts rise, by the status that it ends with.
-use Rattle.std.specs.Prelude.{◌≡◌, ◌≢◌, ◌⊎◌, ◌<◌, ◌≤◌, ℕ, List, [], ◌++◌, take, Option, Some, None}
+use Rattle.std.specs.Prelude.{◌≡◌, ◌≢◌, ◌⊎◌, ◌<◌, ◌≤◌, ℕ, List, [], ◌++◌, take, Some, None}
 use Rattle.nn_host.specs.Disk.{Reads}
 use Rattle.nn_host.specs.Moments.{State, faults_at}
 use Rattle.nn_host.specs.Calls.{next_count}
 use Rattle.nn_host.specs.Runs.{AllAnswered}
 use Rattle.nn_cli.specs.declared.status.Status.{Status}
 use Rattle.nn_cli.specs.declared.status.Status.TheVariants.{Ok, Usage, Refused, HostFault, Memory, OutFault}
-use Rattle.nn_cli.specs.Words.{Word, AskStates}
+use Rattle.nn_cli.specs.Words.{Word, AskStates, HaveNoReading}
 use Rattle.nn_cli.specs.Lines.{state_line, last_line}
 use Rattle.nn_cli.specs.States.{found, state_lines, first_refusal}
 
@@ -25,7 +25,7 @@ StatesBefore dirs n Usage lines = ⊥
 
 -- the same for any words: those without a reading are answered by the last line alone, and want of memory is free
 abbrev pub Before : List Word → (ℕ → Reads) → ℕ → Status → List ℕ → Type 0
-Before words dirs n Usage lines = (HaveReading words → ⊥) × (lines ≡ [])
+Before words dirs n Usage lines = HaveNoReading words × (lines ≡ [])
 Before words dirs n Memory lines = StatesBefore dirs n Memory lines
 Before words dirs n status lines = HaveReading words × StatesBefore dirs n status lines
 

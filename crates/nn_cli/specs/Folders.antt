@@ -1,5 +1,5 @@
 -- What a host over real folders means: how many directories it has, and its counts of faults. It tells nothing else.
-use Rattle.std.specs.Prelude.{ℕ, List, [], length, false, None, slice_index}
+use Rattle.std.specs.Prelude.{ℕ, List, [], false, None, slice_index}
 use Rattle.nn_host.specs.Disk.{Held}
 use Rattle.nn_host.specs.Moments.{Moment, State}
 

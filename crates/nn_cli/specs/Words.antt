@@ -16,6 +16,9 @@ is_plain [] = true
 is_plain (first ∷ []) = true
 is_plain (first ∷ second ∷ later) = not (first == 45)
 
+abbrev pub AllPlain : List Word → Type 0
+AllPlain words = All (λ word. IsTrue (is_plain word)) words
+
 -- one to eight directories, none without a name, no two with the same
 pub record AreDirs (dirs : List Word) : Type 0 where
   pub some : 1 ≤ length dirs
@@ -26,7 +29,7 @@ pub record AreDirs (dirs : List Word) : Type 0 where
 -- plain words are directories, also with `--` behind the last; after a `--` that stands first, each word is a directory
 abbrev pub Spell : List Word → List Word → Type 0
 Spell words dirs =
-    (All (λ word. IsTrue (is_plain word)) dirs × ((words ≡ dirs) ⊎ (words ≡ dirs ++ codes "--" ∷ [])))
+    (AllPlain dirs × ((words ≡ dirs) ⊎ (words ≡ dirs ++ codes "--" ∷ [])))
     ⊎ (words ≡ codes "--" ∷ dirs)
 
 -- the words ask for the states of these directories
@@ -35,3 +38,7 @@ pub record AskStates (words dirs : List Word) : Type 0 where
   pub command : words ≡ codes "state" ∷ later
   pub spelled : Spell later dirs
   pub are_dirs : AreDirs dirs
+
+-- no directories make the words a reading
+abbrev pub HaveNoReading : List Word → Type 0
+HaveNoReading words = (dirs : List Word) → AskStates words dirs → ⊥

@@ -1,13 +1,14 @@
 // Real folders and the real output as a host that tells nothing.
 ghost use Rattle.std.specs.Prelude.{◌≡◌, ◌≢◌, ◌<◌, ◌≤◌, ℕ, IfOk, length, slice_index};
 ghost use Rattle.nn_host.specs.Disk.{Look};
+ghost use Rattle.nn_cli.specs.Words.{texts, HaveNoReading};
 ghost use Rattle.nn_host.specs.Calls.{Called, next_count};
 
+use crate::{Status, WordsFault, dirs_of, namenode};
 use nn_base::{DirNo, FileName, NoMemory, Sub};
 use nn_host::{Failed, Host};
 use std::alloc::Global;
 use std::fs::{Metadata, metadata};
-use std::io;
 use std::io::ErrorKind;
 use std::rt::Files;
 
@@ -67,19 +68,25 @@ impl<R: Files + Print + Drop> Folders<R> {
     fn is_file(&self, i: DirNo, sub: Sub, name: FileName) -> Result<bool, Failed>
         requires { i.0 < length self.now.roots.items }
     {
-        let sub = sub_path(sub);
-        let name = match name {
-            FileName::Version => "VERSION",
-            FileName::VersionTmp => "VERSION.tmp",
-            FileName::Seen => "seen_txid",
-            FileName::SeenTmp => "seen_txid.tmp",
-            // The program asks for no other file.
-            _ => return Err(Failed),
-        };
-        let Ok(below) = format!(in self.alloc; "{sub}/{name}") else {
+        let Ok(below) = self.file_path(sub, name) else {
             return Err(Failed);
         };
-        Ok(self.at(i, below.as_str())?.is_some_and(|found| found.is_file()))
+        let Ok(below) = String::from_utf8(below) else {
+            return Err(Failed);
+        };
+        Ok(
+            self.at(i, below.as_str())?
+                .is_some_and(|found| found.is_file()),
+        )
+    }
+
+    // A file's path below its directory.
+    fn file_path(&self, sub: Sub, name: FileName) -> Result<Vec<u8>, NoMemory> {
+        let mut path = Vec::new(self.alloc);
+        path.extend_from_slice(sub_path(sub).as_bytes())?;
+        path.push(b'/')?;
+        name.text(&mut path)?;
+        Ok(path)
     }
 
     // Raises the count of directory `i` where a look at it failed.
@@ -153,4 +160,23 @@ impl<R: Files + Print + Drop> Host for Folders<R> {
             }
         }
     }
+}
+
+/// Does what the words ask for over the real folders that they name, and gives the exit status.
+pub fn run<R: Files + Print + Drop>(rt: R, alloc: Global, words: &[String]) -> u8 {
+    let roots = match dirs_of(alloc, words) {
+        Ok(roots) => roots,
+        Err(WordsFault::Usage) => return run_unread(rt, alloc, words),
+        Err(WordsFault::Memory) => return Status::Memory.code(),
+    };
+    let mut host = Folders::new(rt, alloc, roots);
+    namenode(alloc, words, &mut host).code()
+}
+
+// Words without a reading name no folder.
+fn run_unread<R: Files + Print + Drop>(rt: R, alloc: Global, words: &[String]) -> u8
+    requires { HaveNoReading (texts words.now) }
+{
+    let mut host = Folders::new(rt, alloc, Vec::new(alloc));
+    namenode(alloc, words, &mut host).code()
 }

@@ -1,17 +1,43 @@
 //! The program `namenode`: its words, its answers and its exit status.
-//! What it does with the directories stands in the crates below.
+//! What it does with name directories stands in the crates below.
 #![tactic(auto)]
 
+mod folders;
 mod refusal;
 mod run;
 mod states;
 mod status;
+#[cfg(test)]
+mod tests;
 mod words;
 
+pub use folders::Folders;
 pub use refusal::Refusal;
 pub use run::namenode;
 pub use states::say_states;
 pub use status::Status;
-pub use words::states_asked;
+use std::env;
+use std::io::ErrorKind;
+use std::process::ExitCode;
+pub use words::{WordsFault, dirs_of, states_asked};
 
-fn main() {}
+fn main(rt: HostRuntime) -> ExitCode {
+    let alloc = rt.alloc();
+    let words = match env::args(&rt) {
+        Ok(mut words) => {
+            let _program = words.next();
+            words.collect(alloc)
+        }
+        Err(error) if error.kind() == ErrorKind::OutOfMemory => return no_memory(),
+        // A word that isn't UTF-8: no words at all have no reading either.
+        Err(_) => Ok(Vec::new(alloc)),
+    };
+    match words {
+        Ok(words) => ExitCode::from(folders::run(rt, alloc, &words)),
+        Err(_) => no_memory(),
+    }
+}
+
+fn no_memory() -> ExitCode {
+    ExitCode::from(Status::Memory.code())
+}

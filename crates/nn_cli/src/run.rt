@@ -3,9 +3,9 @@ ghost use Rattle.std.specs.Prelude.{◌≡◌, ◌⊎◌, ◌++◌, List, length
 ghost use Rattle.std.specs.String.{string_bytes};
 ghost use Rattle.std.specs.Fmt.{decimal};
 ghost use Rattle.nn_host.specs.Runs.{Untouched};
-ghost use Rattle.nn_cli.specs.Words.{Word as W, texts, AskStates};
+ghost use Rattle.nn_cli.specs.Words.{Word as W, texts, AskStates, HaveNoReading};
 ghost use Rattle.nn_cli.specs.Lines.{last_line};
-ghost use Rattle.nn_cli.specs.Answers.{HaveReading, Before, Says, IsCausedBy, EndsBy, FailsOver, Closes, Ends};
+ghost use Rattle.nn_cli.specs.Answers.{Before, Says, IsCausedBy, EndsBy, FailsOver, Closes, Ends};
 
 use crate::{Status, say_states, states_asked};
 use nn_base::{DirNo, NoMemory};
@@ -17,8 +17,8 @@ use std::alloc::Global;
 /// Where the words have a reading, the host has as many directories as that reading, in its order.
 pub fn namenode<H: Host>(alloc: Global, words: &[String], host: &mut H) -> Status
     requires { (dirs : List W) → AskStates (texts words.now) dirs → (H.state host.old).count ≡ length dirs }
-    ensures usage_only { result ≡ Status.Usage → HaveReading (texts words.now) → ⊥ }
-    ensures usage { (HaveReading (texts words.now) → ⊥) → (result ≡ Status.Usage) ⊎ (result ≡ Status.OutFault) }
+    ensures usage_only { result ≡ Status.Usage → HaveNoReading (texts words.now) }
+    ensures usage { HaveNoReading (texts words.now) → (result ≡ Status.Usage) ⊎ (result ≡ Status.OutFault) }
     ensures said { H.told → (text : _) × ((H.state host.new).now.said ≡ (H.state host.old).now.said ++ text) × Says (texts words.now) (H.state host.old).reads (H.state host.old).count result text }
     ensures kept { Untouched H.told (H.state host.old) (H.state host.new) }
     ensures cause { IsCausedBy H.told (H.state host.old) (H.state host.new) result }
@@ -29,8 +29,8 @@ pub fn namenode<H: Host>(alloc: Global, words: &[String], host: &mut H) -> Statu
 
 // All but the last line.
 fn answer<H: Host>(alloc: Global, words: &[String], host: &mut H) -> Status
-    ensures usage_only { result ≡ Status.Usage → HaveReading (texts words.now) → ⊥ }
-    ensures usage { (HaveReading (texts words.now) → ⊥) → result ≡ Status.Usage }
+    ensures usage_only { result ≡ Status.Usage → HaveNoReading (texts words.now) }
+    ensures usage { HaveNoReading (texts words.now) → result ≡ Status.Usage }
     ensures said { H.told → (lines : _) × ((H.state host.new).now.said ≡ (H.state host.old).now.said ++ lines) × Before (texts words.now) (H.state host.old).reads (H.state host.old).count result lines }
     ensures kept { Untouched H.told (H.state host.old) (H.state host.new) }
     ensures cause { IsCausedBy H.told (H.state host.old) (H.state host.new) result }

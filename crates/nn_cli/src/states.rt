@@ -35,7 +35,11 @@ pub fn say_states<H: Host>(alloc: Global, host: &mut H) -> Status
 }
 
 // Looks at one directory and says its line.
-fn say_state<H: Host>(alloc: Global, host: &mut H, i: DirNo) -> Result<Result<StorageState, Why>, Status>
+fn say_state<H: Host>(
+    alloc: Global,
+    host: &mut H,
+    i: DirNo,
+) -> Result<Result<StorageState, Why>, Status>
     requires { i.0 < (H.state host.old).count }
     ensures ok { OnOk result (AllAnswered H.told (H.state host.old) (H.state host.new)) }
     ensures value { H.told → IfOk result (λ it. it ≡ found (H.state host.old).reads i.0) }

@@ -1,13 +1,54 @@
 // The words of the command line.
-ghost use Rattle.std.specs.Prelude.{◌≡◌, ◌≢◌, ◌<◌, ◌≤◌, ◌↔◌, List, [], length, IsTrue, IfSome, IfNone, IsSomeAnd, All, Contains, map};
+ghost use Rattle.std.specs.Prelude.{IfOk, ◌∷◌, ◌++◌, codes, MatchOption, ◌≡◌, ◌≢◌, ◌<◌, ◌≤◌, ◌↔◌, List, [], length, IsTrue, IfSome, IfNone, All, map};
 ghost use Rattle.std.specs.List.{AllPairs};
 ghost use Rattle.std.specs.String.{string_bytes};
-ghost use Rattle.nn_cli.specs.Words.{Word as W, texts, is_plain as plain, AreDirs, Spell, AskStates};
+ghost use Rattle.nn_cli.specs.Words.{Word as W, texts, is_plain as plain, AreDirs, Spell, AskStates, HaveNoReading};
+
+use std::alloc::{AllocError, Global};
+use thiserror::Error;
+
+/// Why words give no directories.
+#[derive(Clone, Copy, Debug, PartialEq, Eq, Error)]
+pub enum WordsFault {
+    /// The words have no reading.
+    #[error("usage")]
+    Usage,
+    /// Memory ran out. The words have a reading then.
+    #[error("no memory")]
+    Memory,
+}
+
+// How many directories a command takes at most.
+const MOST_DIRS: usize = 8;
+
+/// The directories of the words, in the order of the words.
+pub fn dirs_of(alloc: Global, words: &[String]) -> Result<Vec<String>, WordsFault>
+    ensures ok { IfOk result (λ dirs. AskStates (texts words.now) (texts dirs.items)) }
+    ensures usage { (result ≡ Err WordsFault.Usage) ↔ HaveNoReading (texts words.now) }
+{
+    let Some(dirs) = states_asked(words) else {
+        return Err(WordsFault::Usage);
+    };
+    match copied(alloc, dirs) {
+        Ok(dirs) => Ok(dirs),
+        Err(_) => Err(WordsFault::Memory),
+    }
+}
+
+fn copied(alloc: Global, words: &[String]) -> Result<Vec<String>, AllocError>
+    ensures { IfOk result (λ copies. texts copies.items ≡ texts words.now) }
+{
+    let mut copies = Vec::with_capacity(alloc, words.len())?;
+    for word in words {
+        copies.push(String::from_str(alloc, word.as_str())?)?;
+    }
+    Ok(copies)
+}
 
 /// The directories whose states the words ask for, or none where the words have no reading.
 pub fn states_asked(words: &[String]) -> Option<&[String]>
     ensures asked { IfSome result (λ dirs. AskStates (texts words.now) (texts dirs.now)) }
-    ensures unread { IfNone result ((dirs : List W) → AskStates (texts words.now) dirs → ⊥) }
+    ensures unread { IfNone result (HaveNoReading (texts words.now)) }
 {
     let (command, later) = words.split_first()?;
     if command.as_str() != "state" {
@@ -20,26 +61,41 @@ pub fn states_asked(words: &[String]) -> Option<&[String]>
 // The directories that these words spell.
 fn spelled(words: &[String]) -> Option<&[String]>
     ensures some { IfSome result (λ dirs. Spell (texts words.now) (texts dirs.now)) }
-    ensures only { (dirs : List W) → dirs ≢ [] → Spell (texts words.now) dirs → IsSomeAnd result (λ found. texts found.now ≡ dirs) }
+    ensures none { IfNone result ((dirs : List W) → Spell (texts words.now) dirs → ⊥) }
 {
-    if let Some((first, dirs)) = words.split_first()
-        && first.as_str() == "--"
-    {
+    if let Some(dirs) = after_mark(words) {
         return Some(dirs);
     }
-    let dirs = without_end_mark(words);
+    let dirs = before_mark(words).unwrap_or(words);
     if are_plain(dirs) { Some(dirs) } else { None }
 }
 
-fn without_end_mark(words: &[String]) -> &[String] {
-    match words.split_last() {
-        Some((last, dirs)) if last.as_str() == "--" => dirs,
-        _ => words,
+// What stands behind a first `--`.
+fn after_mark(words: &[String]) -> Option<&[String]>
+    ensures { MatchOption result ((dirs : List W) → texts words.now ≢ codes "--" ∷ dirs) (λ dirs. texts words.now ≡ codes "--" ∷ texts dirs.now) }
+{
+    let (first, dirs) = words.split_first()?;
+    if first.as_str() == "--" {
+        Some(dirs)
+    } else {
+        None
+    }
+}
+
+// What stands before a last `--`.
+fn before_mark(words: &[String]) -> Option<&[String]>
+    ensures { MatchOption result ((dirs : List W) → texts words.now ≢ dirs ++ codes "--" ∷ []) (λ dirs. texts words.now ≡ texts dirs.now ++ codes "--" ∷ []) }
+{
+    let (last, dirs) = words.split_last()?;
+    if last.as_str() == "--" {
+        Some(dirs)
+    } else {
+        None
     }
 }
 
 fn are_plain(words: &[String]) -> bool
-    ensures { IsTrue result ↔ All (λ word. IsTrue (plain word)) (texts words.now) }
+    ensures { IsTrue result ↔ All (λ word. IsTrue (plain (string_bytes word))) words.now }
 {
     words.iter().all(|word| is_plain(word.as_bytes()))
 }
@@ -56,23 +112,77 @@ fn is_plain(word: &[u8]) -> bool
 fn are_dirs(dirs: &[String]) -> bool
     ensures { IsTrue result ↔ AreDirs (texts dirs.now) }
 {
-    if dirs.is_empty() || dirs.len() > 8 {
+    if dirs.is_empty() || MOST_DIRS < dirs.len() {
         return false;
     }
-    dirs.iter().all(|dir| !dir.is_empty()) && are_distinct(dirs)
+    if !are_named(dirs) {
+        return false;
+    }
+    are_distinct(dirs)
+}
+
+fn are_named(dirs: &[String]) -> bool
+    ensures { IsTrue result ↔ All (λ dir. string_bytes dir ≢ []) dirs.now }
+{
+    dirs.iter().all(|dir| !dir.as_bytes().is_empty())
 }
 
 fn are_distinct(dirs: &[String]) -> bool
-    ensures { IsTrue result ↔ AllPairs (λ one other. one ≢ other) (texts dirs.now) }
+    ensures { IsTrue result ↔ AllPairs (λ one other. string_bytes one ≢ string_bytes other) dirs.now }
 {
     match dirs.split_first() {
-        Some((first, later)) => !is_among(first.as_str(), later) && are_distinct(later),
+        Some((first, later)) => is_none_of(first.as_str(), later) && are_distinct(later),
         None => true,
     }
 }
 
-fn is_among(dir: &str, dirs: &[String]) -> bool
-    ensures { IsTrue result ↔ Contains (texts dirs.now) dir.now }
+fn is_none_of(dir: &str, others: &[String]) -> bool
+    ensures { IsTrue result ↔ All (λ other. dir.now ≢ string_bytes other) others.now }
 {
-    dirs.iter().any(|other| other.as_str() == dir)
+    others.iter().all(|other| dir != other.as_str())
+}
+
+#[cfg(test)]
+mod tests {
+    use super::*;
+    use std::test::Fail;
+
+    // Words with one space between them, and their directories where they have a reading.
+    const ROWS: [(&str, Option<&str>); 14] = [
+        ("", None),
+        ("fly A", None),
+        ("state", None),
+        ("state --", None),
+        ("state ", None),
+        ("state A A", None),
+        ("state -x A", None),
+        ("state A -- B", None),
+        ("state a b c d e f g h i", None),
+        ("state a b c d e f g h", Some("a b c d e f g h")),
+        ("state B A", Some("B A")),
+        ("state A --", Some("A")),
+        ("state - A", Some("- A")),
+        ("state -- -x --", Some("-x --")),
+    ];
+
+    fn split(alloc: Global, line: &str) -> Result<Vec<String>, AllocError> {
+        let mut words = Vec::new(alloc);
+        for word in line.split(' ') {
+            words.push(String::from_str(alloc, word)?)?;
+        }
+        Ok(words)
+    }
+
+    #[test]
+    fn words_give_their_directories_or_usage(rt: HostRuntime) -> Result<(), Fail> {
+        for (line, dirs) in ROWS {
+            let found = dirs_of(rt.alloc(), &split(rt.alloc(), line)?);
+            match dirs {
+                Some(dirs) => assert_eq!(rt; found?, split(rt.alloc(), dirs)?, "{line}"),
+                None => assert_eq!(rt; found.err(), Some(WordsFault::Usage), "{line}"),
+            }
+        }
+        assert_eq!(rt; dirs_of(rt.alloc(), &[]).err(), Some(WordsFault::Usage));
+        Ok(())
+    }
 }

@@ -17,10 +17,10 @@ returns-clause-kept g c = untouched_trans c.in-Ok.ensures.kept.untouched (untouc
 pub returns-clause-cause : goal.returns-clause-cause
 returns-clause-cause g c =
     let looked = all_answered_looked c.in-Ok.ensures.kept in
-    let spoke = c.in-Err-say.ensures in
-    ( spoke.counted_err ∙ ap next_count looked.out_faults,
+    let spoke = c.in-Err-say.ensures in (
+      spoke.counted_err ∙ ap next_count looked.out_faults,
       (λ tells.
-        let front = spoke_front spoke tells in
-        let line = c.as_bytes.ensures.value ∙ c.in-Ok-line_of.ensures ∙ ap (state_line c.args.i.0) (c.table-found.ensures ∙ ap table_of (c.in-Ok.ensures.ok tells)) in
-        (front.0, front.1 ∙ (λ k. c.in-Ok.ensures.kept.frame.now.said k ++ take front.0 (line k))))
+          let front = spoke_front spoke tells in
+          let line = c.as_bytes.ensures.value ∙ c.in-Ok-line_of.ensures ∙ ap (state_line c.args.i.0) (c.table-found.ensures ∙ ap table_of (c.in-Ok.ensures.ok tells)) in
+          (front.0, front.1 ∙ (λ k. c.in-Ok.ensures.kept.frame.now.said k ++ take front.0 (line k)))),
     )
