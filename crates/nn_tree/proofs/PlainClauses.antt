@@ -10,7 +10,7 @@ use Rattle.nn_tree.specs.declared.spot.Spot.{Spot}
 use Rattle.nn_tree.specs.Nodes.{is_dir}
 use Rattle.nn_tree.specs.Namespace.{IsRoot, is_dir_at}
 use Rattle.nn_tree.specs.Links.{Link, Links, path_at, nodes_of, IsTree, has_place, place_of}
-use Rattle.nn_tree.proofs.LinksLemmas.{path_of_place}
+use Rattle.nn_tree.proofs.LinksLemmas.{link_there, path_of_place}
 use Rattle.std.specs.Prelude.{slice_get, IfSome}
 use Rattle.nn_tree.specs.declared.entry.Entry.{Entry}
 use Rattle.nn_tree.specs.Nodes.{blocks_of}
@@ -31,7 +31,7 @@ use Rattle.nn_tree.proofs.MoveLemmas.{Moved, relinked}
 use Rattle.nn_tree.proofs.CutLemmas.{Cuts, nodes_cut, tree_cut, removes_cut}
 use Rattle.nn_tree.proofs.LimitsLemmas.{limits_rekeyed, limits_empty}
 use Rattle.nn_tree.proofs.CutLoop.{written_back}
-use Rattle.nn_tree.proofs.PlainLemmas.{held, live_entry, spot_entry, has_entry, sets_entry, has_within}
+use Rattle.nn_tree.proofs.PlainLemmas.{held, entry_at, live_entry, spot_entry, has_entry, sets_entry, has_within}
 use Rattle.nn_tree.proofs.PlainClimb.{climbs}
 use Rattle.nn_tree.proofs.FindLemmas.{Here}
 use Rattle.nn_tree.proofs.LeastLemmas.{is_next}
@@ -237,3 +237,13 @@ sibling_found es xs i o bound best same t has below_root read named least p name
     let s = sibling_of (links_of es) i (i - 1) (held o) t j (spot_entry es i o has read) p name at in
     let here = subst (λ (xs : List Entry). IsLeast (links_of xs) o.parent bound (length xs) best) same least in
     is_next (links_of es) o.parent p name best t s.0 (subst (λ (b : Bytes). IsLeast (links_of es) o.parent b (length es) best) (named ∙ s.1) here)
+
+-- ---- a spot stands elsewhere than the place that was free
+
+pub spot_apart : (es xs : List Entry) (i j : ℕ) → xs ≡ es → IfSome (slice_get xs i) (λ e. e.live ≡ false) → i < length xs → has_place (links_of es) j ≡ true → j ≢ i
+spot_apart es xs i j same free within has is =
+    let l = link_there (links_of es) j has in
+    let x = entry_at es j l.0 l.1 in
+    let at : slice_get xs i ≡ Some x.entry = ap (λ (xs : List Entry). slice_get xs i) same ∙ ap (slice_get es) (sym is) ∙ x.is in
+    let dead : x.entry.live ≡ false = subst (λ (o : Option Entry). IfSome o (λ e. e.live ≡ false)) at free in
+    let live = x.live in cc

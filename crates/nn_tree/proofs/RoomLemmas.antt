@@ -1,5 +1,5 @@
 -- What the plain tree keeps ready: a free place, and a list with room for one block more.
-use Rattle.std.proofs.Common.{◌≡◌, ℕ, zero, suc, ◌<◌, Bool, true, false, not, cond, List, [], ◌∷◌, ◌++◌, ◌&&◌, inl, inr, length, Option, Some, None, refl, sym, ap, ◌∙◌, arith}
+use Rattle.std.proofs.Common.{◌≡◌, ◌≢◌, ℕ, zero, suc, ◌<◌, Bool, true, false, not, cond, List, [], ◌∷◌, ◌++◌, ◌&&◌, inl, inr, length, Option, Some, None, refl, sym, ap, ◌∙◌, arith}
 use Rattle.std.specs.Prelude.{slice_get, option_map, nat_lt, ◌||◌}
 use Rattle.std.specs.List.{list_any}
 use Rattle.std.specs.Option.{option_map_or}
@@ -8,10 +8,9 @@ use Rattle.std.proofs.lemmas.Bool.{cases_eq}
 use Rattle.std.proofs.lemmas.Bool.Decides.{nat_tests}
 use Rattle.std.proofs.lemmas.Option.{slice_get_within}
 use Rattle.nn_tree.specs.declared.entry.Entry.{Entry}
-use Rattle.nn_tree.specs.Plain.{is_free, blocks_in, blocks_in_at, has_room, climbs_to, cut_entry, IsCutOf}
+use Rattle.nn_tree.specs.Plain.{is_free, blocks_in, blocks_in_at, has_block_room, climbs_to, cut_entry, IsCutOf}
 use Rattle.nn_tree.proofs.LinksLemmas.{some_is}
 use Rattle.nn_tree.proofs.PlainLemmas.{slice_set_same, slice_set_other}
-use Rattle.nn_tree.proofs.FindLemmas.{first_so, second_so}
 
 -- ---- one entry is written
 
@@ -27,10 +26,17 @@ at_set f xs i j o x is same = elim (cases_eq j i) as (λ _. option_map_or f (sli
   | inr other ↦ ap (λ o. option_map_or f o 0) (slice_set_other xs i j x other)
 ]
 
--- an entry as live, and with as many blocks, as the one before
-pub room_set : (es : List Entry) (i : ℕ) (o e : Entry) (room j : ℕ) → slice_get es i ≡ Some o → e.live ≡ o.live → blocks_in e ≡ blocks_in o → has_room (set es i e) room j ≡ has_room es room j
-room_set es i o e room j is live blocks =
-    (λ k. any_set is_free es i o e is (ap not live) k && nat_lt (at_set blocks_in es i j o e is blocks k) room)
+-- an entry as live as the one before
+pub free_set : (es : List Entry) (i : ℕ) (o e : Entry) → slice_get es i ≡ Some o → e.live ≡ o.live → list_any is_free (set es i e) ≡ list_any is_free es
+free_set es i o e is live = any_set is_free es i o e is (ap not live)
+
+-- and one with as many blocks
+pub room_set : (es : List Entry) (i : ℕ) (o e : Entry) (room j : ℕ) → slice_get es i ≡ Some o → blocks_in e ≡ blocks_in o → has_block_room (set es i e) room j ≡ has_block_room es room j
+room_set es i o e room j is blocks = ap (λ n. nat_lt n room) (at_set blocks_in es i j o e is blocks)
+
+-- another entry keeps its room
+pub room_other : (es : List Entry) (i : ℕ) (e : Entry) (room j : ℕ) → j ≢ i → has_block_room (set es i e) room j ≡ has_block_room es room j
+room_other es i e room j other = ap (λ o. nat_lt (option_map_or blocks_in o 0) room) (slice_set_other es i j e other)
 
 -- ---- entries are cut
 
@@ -50,24 +56,17 @@ at_any p (y ∷ xs) (suc i) x is h = or_true (p y) (at_any p xs i x is h)
     or_true true e = refl
     or_true false e = e
 
-pub any_push : {A : Type 0} (p : A → Bool) (xs : List A) (x : A) → p x ≡ true → list_any p (xs ++ x ∷ []) ≡ true
-any_push p [] x h = ap (λ b. b || false) h
-any_push p (y ∷ xs) x h = or_true (p y) (any_push p xs x h)
+pub free_cut : (es fs : List Entry) (a : ℕ) → IsCutOf es fs a → list_any is_free es ≡ true → list_any is_free fs ≡ true
+free_cut es fs a c h =
+    let x = any_at is_free es h in
+    at_any is_free fs x.0 (cut_entry es a x.0 x.1) (c.each x.0 ∙ ap (option_map (cut_entry es a x.0)) x.2.0) (stays (climbs_to es a (length es) x.0) x.1 x.2.1)
   where
-    or_true : (a : Bool) {b : Bool} → b ≡ true → (a || b) ≡ true
-    or_true true e = refl
-    or_true false e = e
+    stays : (b : Bool) (e : Entry) → is_free e ≡ true → is_free (cond b (record e { live = false }) e) ≡ true
+    stays true e h = refl
+    stays false e h = h
 
-both : (a b : Bool) → a ≡ true → b ≡ true → (a && b) ≡ true
-both true b p q = q
-both false b p q = p
-
-pub room_cut : (es fs : List Entry) (a room j : ℕ) → IsCutOf es fs a → has_room es room j ≡ true → has_room fs room j ≡ true
-room_cut es fs a room j c h =
-    let x = any_at is_free es (first_so _ _ h) in
-    let blocks : blocks_in_at fs j ≡ blocks_in_at es j = ap (λ o. option_map_or blocks_in o 0) (c.each j) ∙ alike (climbs_to es a (length es) j) (slice_get es j) in
-    both _ _ (at_any is_free fs x.0 (cut_entry es a x.0 x.1) (c.each x.0 ∙ ap (option_map (cut_entry es a x.0)) x.2.0) (stays (climbs_to es a (length es) x.0) x.1 x.2.1))
-    (ap (λ n. nat_lt n room) blocks ∙ second_so (list_any is_free es) _ h)
+pub room_cut : (es fs : List Entry) (a room j : ℕ) → IsCutOf es fs a → has_block_room fs room j ≡ has_block_room es room j
+room_cut es fs a room j c = ap (λ n. nat_lt n room) (ap (λ o. option_map_or blocks_in o 0) (c.each j) ∙ alike (climbs_to es a (length es) j) (slice_get es j))
   where
     alike : (b : Bool) (o : Option Entry) → option_map_or blocks_in (option_map {T = Entry} {U = Entry} (λ e. cond b (record e { live = false }) e) o) 0 ≡ option_map_or blocks_in o 0
     alike true None = refl
@@ -75,19 +74,12 @@ room_cut es fs a room j c h =
     alike false None = refl
     alike false (Some e) = refl
 
-    stays : (b : Bool) (e : Entry) → is_free e ≡ true → is_free (cond b (record e { live = false }) e) ≡ true
-    stays true e h = refl
-    stays false e h = h
-
 -- ---- room is made, and used
 
-pub room_made : (es : List Entry) (room i n : ℕ) → list_any is_free es ≡ true → blocks_in_at es i ≡ n → n < room → has_room es room i ≡ true
-room_made es room i n free is lt = both _ _ free (ap (λ n. nat_lt n room) is ∙ grind (arith, nat_tests, lt))
+pub room_made : (es : List Entry) (room i n : ℕ) → blocks_in_at es i ≡ n → n < room → has_block_room es room i ≡ true
+room_made es room i n is lt = ap (λ n. nat_lt n room) is ∙ grind (arith, nat_tests, lt)
 
-pub room_free : (es : List Entry) (room i : ℕ) → has_room es room i ≡ true → list_any is_free es ≡ true
-room_free es room i h = first_so _ _ h
-
-pub room_enough : (es : List Entry) (room i : ℕ) (e : Entry) → has_room es room i ≡ true → slice_get es i ≡ Some e → blocks_in e < room
+pub room_enough : (es : List Entry) (room i : ℕ) (e : Entry) → has_block_room es room i ≡ true → slice_get es i ≡ Some e → blocks_in e < room
 room_enough es room i e h is =
-    let n : nat_lt (blocks_in e) room ≡ true = ap (λ o. nat_lt (option_map_or blocks_in o 0) room) (sym is) ∙ second_so (list_any is_free es) _ h in
+    let n : nat_lt (blocks_in e) room ≡ true = ap (λ o. nat_lt (option_map_or blocks_in o 0) room) (sym is) ∙ h in
     grind (arith, nat_tests, n)

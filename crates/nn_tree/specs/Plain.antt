@@ -1,6 +1,5 @@
 -- The plain tree: its entries as links, and what its scans look for.
 use Rattle.std.specs.Prelude.{◌≡◌, ◌≢◌, ◌<◌, ℕ, zero, suc, Bool, true, false, not, ◌==◌, ◌&&◌, nat_eq, nat_lt, if◌then◌else◌, List, [], ◌∷◌, ◌++◌, ◌⊎◌, length, slice_get, Option, Some, None, option_and_then, option_map, unwrap_or}
-use Rattle.std.specs.List.{list_any}
 use Rattle.std.specs.Option.{option_map_or}
 use Rattle.std.specs.Ordering.{is_lt}
 use Rattle.std.specs.declared.cmp.Ordering.TheVariants.{Less}
@@ -27,7 +26,7 @@ is_free e = not e.live
 abbrev pub IsMoreOf : List Entry → List Entry → Type 0
 IsMoreOf es fs = (fs ≡ es) ⊎ ((d : Entry) × ((d.live ≡ false) × (fs ≡ es ++ d ∷ [])))
 
--- ---- room: a free place, and a list that takes one block more than those of the entry at i
+-- ---- room for a block: a list that takes one more than those of the entry at i
 
 abbrev pub blocks_in : Entry → ℕ
 blocks_in e = length (blocks_of e.node.kind)
@@ -35,8 +34,8 @@ blocks_in e = length (blocks_of e.node.kind)
 abbrev pub blocks_in_at : List Entry → ℕ → ℕ
 blocks_in_at es i = option_map_or blocks_in (slice_get es i) 0
 
-abbrev pub has_room : List Entry → ℕ → ℕ → Bool
-has_room es room i = list_any is_free es && nat_lt (blocks_in_at es i) room
+abbrev pub has_block_room : List Entry → ℕ → ℕ → Bool
+has_block_room es room i = nat_lt (blocks_in_at es i) room
 
 -- ---- children
 

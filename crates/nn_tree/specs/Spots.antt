@@ -54,6 +54,17 @@ pub record Removes (p : Names) (had has : Spot → Bool) (was is : Spot → Name
   pub left : (s : Spot) → has s ≡ (had s && not (is_under p (was s)))
   pub same : (s : Spot) → has s ≡ true → is s ≡ was s
 
--- what was ready for a spot is ready still, where that names a node
-abbrev pub KeepsRoom : (Spot → Bool) → (Spot → Bool) → (Spot → Bool) → Type 0
-KeepsRoom has ready_before ready = (s : Spot) → has s ≡ true → ready_before s ≡ true → ready s ≡ true
+-- ---- what a tree keeps ready, so that a call needs no memory
+
+-- room for one node more, and at which spots for one block more
+pub record Spare : Type 0 where
+  pub node : Bool
+  pub block : Spot → Bool
+
+-- the room for a block stays at each spot that names a node
+abbrev pub KeepsBlockRoom : (Spot → Bool) → Spare → Spare → Type 0
+KeepsBlockRoom has old new = (s : Spot) → has s ≡ true → old.block s ≡ true → new.block s ≡ true
+
+pub record KeepsSpare (has : Spot → Bool) (old new : Spare) : Type 0 where
+  pub node : old.node ≡ true → new.node ≡ true
+  pub block : KeepsBlockRoom has old new

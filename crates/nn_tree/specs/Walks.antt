@@ -25,8 +25,8 @@ obstacle_from m front (name ∷ rest) = elim (get m front) [
 abbrev pub obstacle : Nodes → Names → Option Obstacle
 obstacle m p = obstacle_from m [] p
 
--- what a walk to p finds: a file in the way, first of all that is in it; the node at p; or that it is missing
+-- what a walk to p finds: the node there, with nothing in the way; that there is none, and no file in the way; or a file as the first thing in the way
 abbrev pub IsWalk : Walk → (Spot → Bool) → (Spot → Names) → Nodes → Names → Type 0
-IsWalk (Found s) has place m p = (has s ≡ true) × (place s ≡ p) × (is_some (get m p) ≡ true)
+IsWalk (Found s) has place m p = (has s ≡ true) × (place s ≡ p) × (is_some (get m p) ≡ true) × (obstacle m p ≡ None)
 IsWalk Missing has place m p = (get m p ≡ None) × (obstacle m p ≢ Some AFile)
 IsWalk ThroughFile has place m p = obstacle m p ≡ Some AFile

@@ -253,8 +253,9 @@ pub(crate) fn blocks_of(entries: &[Entry], i: usize) -> u64
     ensures { result ≡ slot_share (λ p node. length (nodes.blocks_of node.kind)) (slot (plain.links_of entries.now) i) }
 {
     let entry = &entries[i];
-    if !entry.live {
-        return 0;
+    if entry.live {
+        entry.node.kind.block_count() as u64
+    } else {
+        0
     }
-    entry.node.kind.block_count() as u64
 }

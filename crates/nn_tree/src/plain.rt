@@ -25,7 +25,8 @@ pub struct PlainTree {
 impl Tree for PlainTree {
     ghost use Rattle.std.specs.Prelude.{vec_capacity};
     ghost use Rattle.nn_tree.specs.Links.{meaning_of, has_place, place_of};
-    ghost use Rattle.nn_tree.specs.Plain.{links_of, has_room};
+    ghost use Rattle.nn_tree.specs.Plain.{links_of, is_free, has_block_room};
+    ghost use Rattle.std.specs.List.{list_any};
 
     ghost meaning = { λ t. meaning_of (links_of t.entries.items) t.counters };
 
@@ -33,7 +34,7 @@ impl Tree for PlainTree {
 
     ghost place = { λ t s. place_of (links_of t.entries.items) s.index };
 
-    ghost spare = { λ t s. has_room t.entries.items (vec_capacity t.room) s.index };
+    ghost spare = { λ t. record { node = list_any is_free t.entries.items; block = λ s. has_block_room t.entries.items (vec_capacity t.room) s.index } };
 
     fn new(alloc: Global) -> Result<Self, NoMemory> {
         let mut entries = Vec::new(alloc);
@@ -137,9 +138,9 @@ impl Tree for PlainTree {
 
     fn insert(&mut self, parent: Spot, name: Name, node: Node) -> Spot {
         match entry::free_place(&self.entries) {
-            Some(index) => {
-                self.entries[index] = Entry::used(parent.index, name, node);
-                Spot { index }
+            Some(free) => {
+                self.entries[free] = Entry::used(parent.index, name, node);
+                Spot { index: free }
             }
             None => unreachable!(),
         }

@@ -15,7 +15,7 @@ pub trait Tree: Sized + Drop {
     ghost use Rattle.nn_tree.specs.Limits.{IsWithinLimits, IsCounters};
     ghost use Rattle.nn_tree.specs.Changes.{with_nodes, moved, move, cut, change_at, changed, with_block, takes_change};
     ghost use Rattle.nn_tree.specs.Walks.{IsWalk};
-    ghost use Rattle.nn_tree.specs.Spots.{IsSound, last_name, IsParent, IsNextChild, Keeps, Removes, KeepsRoom};
+    ghost use Rattle.nn_tree.specs.Spots.{IsSound, last_name, IsParent, IsNextChild, Keeps, Removes, Spare, KeepsBlockRoom, KeepsSpare};
 
     /// The namespace that the tree means.
     ghost meaning: { Self → Namespace };
@@ -26,8 +26,8 @@ pub trait Tree: Sized + Drop {
     /// The path of the node that a spot names.
     ghost place: { Self → Spot → Names };
 
-    /// Whether one node below a spot and one block more at it need no memory.
-    ghost spare: { Self → Spot → Bool };
+    /// What needs no memory: one node more, and at some spots one block more.
+    ghost spare: { Self → Spare };
 
     /// The empty namespace.
     fn new(alloc: Global) -> Result<Self, NoMemory>
@@ -83,10 +83,11 @@ pub trait Tree: Sized + Drop {
         ensures place { place self.new ≡ place self.old }
         ensures room { spare self.new ≡ spare self.old };
 
-    /// Makes room for one node below a directory, or for one block more in a file. Without memory the namespace is as before.
+    /// Makes room for one node anywhere in the tree and for one block more at a spot. Without memory the namespace is as before.
     fn reserve(&mut self, at: Spot) -> Result<(), NoMemory>
         requires { has self.old at ≡ true }
-        ensures ok { OnOk result (spare self.new at ≡ true) }
+        ensures node { OnOk result ((spare self.new).node ≡ true) }
+        ensures block { OnOk result ((spare self.new).block at ≡ true) }
         ensures means { meaning self.new ≡ meaning self.old }
         ensures has { has self.new ≡ has self.old }
         ensures place { place self.new ≡ place self.old };
@@ -97,21 +98,23 @@ pub trait Tree: Sized + Drop {
         requires in_dir { is_dir_at (meaning self.old).nodes (place self.old parent) ≡ true }
         requires free { map.get (meaning self.old).nodes (place self.old parent ++ name ∷ []) ≡ None }
         requires limits { IsWithinLimits (map.insert (meaning self.old).nodes (place self.old parent ++ name ∷ []) node) }
-        requires room { spare self.old parent ≡ true }
+        requires room { (spare self.old).node ≡ true }
         ensures means { meaning self.new ≡ with_nodes (meaning self.old) (map.insert (meaning self.old).nodes (place self.old parent ++ name ∷ []) node) }
         ensures keeps { Keeps (has self.old) (has self.new) (place self.old) (place self.new) (λ p. p) }
         ensures spot { has self.new result ≡ true }
-        ensures at { place self.new result ≡ place self.old parent ++ name ∷ [] };
+        ensures at { place self.new result ≡ place self.old parent ++ name ∷ [] }
+        ensures room { KeepsBlockRoom (has self.old) (spare self.old) (spare self.new) };
 
     /// Puts a block behind those of a file, in the room that `reserve` made for it.
     fn add_block(&mut self, at: Spot, block: Block)
         requires there { has self.old at ≡ true }
         requires file { is_file_at (meaning self.old).nodes (place self.old at) ≡ true }
         requires limits { IsWithinLimits (change_at (place self.old at) (with_block block) (meaning self.old).nodes) }
-        requires room { spare self.old at ≡ true }
+        requires room { (spare self.old).block at ≡ true }
         ensures means { meaning self.new ≡ with_nodes (meaning self.old) (change_at (place self.old at) (with_block block) (meaning self.old).nodes) }
         ensures has { has self.new ≡ has self.old }
-        ensures place { place self.new ≡ place self.old };
+        ensures place { place self.new ≡ place self.old }
+        ensures room { (spare self.new).node ≡ (spare self.old).node };
 
     /// Makes a change of one node.
     fn change(&mut self, at: Spot, change: Change)
@@ -129,7 +132,7 @@ pub trait Tree: Sized + Drop {
         requires below_root { place self.old at ≢ [] }
         ensures means { meaning self.new ≡ with_nodes (meaning self.old) (cut (place self.old at) (meaning self.old).nodes) }
         ensures removes { Removes (place self.old at) (has self.old) (has self.new) (place self.old) (place self.new) }
-        ensures room { KeepsRoom (has self.new) (spare self.old) (spare self.new) };
+        ensures room { KeepsSpare (has self.new) (spare self.old) (spare self.new) };
 
     /// Moves a node, with all below it, into a directory under a name. Spots stay with their nodes.
     fn relink(&mut self, at: Spot, parent: Spot, name: Name)
@@ -141,5 +144,5 @@ pub trait Tree: Sized + Drop {
         requires free { map.get (meaning self.old).nodes (place self.old parent ++ name ∷ []) ≡ None }
         ensures means { meaning self.new ≡ with_nodes (meaning self.old) (move (place self.old at) (place self.old parent ++ name ∷ []) (meaning self.old).nodes) }
         ensures keeps { Keeps (has self.old) (has self.new) (place self.old) (place self.new) (moved (place self.old at) (place self.old parent ++ name ∷ [])) }
-        ensures room { KeepsRoom (has self.new) (spare self.old) (spare self.new) };
+        ensures room { KeepsSpare (has self.new) (spare self.old) (spare self.new) };
 }

@@ -2,7 +2,7 @@ use Rattle.std.proofs.Common.{arith, refl, sym, subst, is_some, unwrap_or, [], v
 use Rattle.std.proofs.lemmas.Option.{slice_get_read}
 use Rattle.nn_tree.specs.Limits.{IsWithinLimits}
 use Rattle.nn_tree.proofs.PlainLemmas.{has_within}
-use Rattle.nn_tree.proofs.RoomLemmas.{room_enough}
+use Rattle.nn_tree.proofs.RoomLemmas.{free_set, room_enough}
 use Rattle.nn_tree.proofs.PlainClauses.{block_entry}
 use Rattle.nn_tree.proofs.plain.PlainTreeTree.add_block.Goals as goal
 
@@ -37,3 +37,8 @@ pub add_block-requires-clause-enough : goal.add_block-requires-clause-enough
 add_block-requires-clause-enough c =
     let read = slice_get_read c.args.self.now.entries.items _ c.args.at.index c.index_mut.result.now refl (has_within c.args.self.now.entries.items c.args.at.index c.args.self.now.tree c.requires.there) c.index_mut.ensures.value in
     room_enough c.args.self.now.entries.items (vec_capacity c.args.self.now.room) c.args.at.index c.index_mut.result.now c.requires.room read
+
+pub returns-clause-room : goal.returns-clause-room
+returns-clause-room c =
+    let read = slice_get_read c.args.self.now.entries.items _ c.args.at.index c.index_mut.result.now refl (has_within c.args.self.now.entries.items c.args.at.index c.args.self.now.tree c.requires.there) c.index_mut.ensures.value in
+    free_set c.args.self.now.entries.items c.args.at.index c.index_mut.result.now (record c.index_mut.result.now { node = record c.index_mut.result.now.node { kind = c.add_block.new.self } }) read refl

@@ -4,7 +4,7 @@ use Rattle.nn_tree.specs.declared.node.Node.{Node}
 use Rattle.nn_tree.specs.Nodes.{blocks_of}
 use Rattle.nn_tree.specs.Limits.{IsWithinLimits}
 use Rattle.nn_tree.proofs.PlainLemmas.{has_within}
-use Rattle.nn_tree.proofs.RoomLemmas.{room_set}
+use Rattle.nn_tree.proofs.RoomLemmas.{free_set, room_set}
 use Rattle.nn_tree.proofs.PlainClauses.{changed_entry, blocks_changed}
 use Rattle.nn_tree.proofs.plain.PlainTreeTree.change.Goals as goal
 
@@ -38,6 +38,6 @@ returns-clause-place c =
 pub returns-clause-room : goal.returns-clause-room
 returns-clause-room c =
     let read = slice_get_read c.args.self.now.entries.items _ c.args.at.index c.index_mut.result.now refl (has_within c.args.self.now.entries.items c.args.at.index c.args.self.now.tree c.requires.there) c.index_mut.ensures.value in
-    let blocks = blocks_changed c.args.change c.index_mut.result.now.node in
-    λ i s. room_set c.args.self.now.entries.items c.args.at.index c.index_mut.result.now (record c.index_mut.result.now { node = c.change.new.self }) (vec_capacity c.args.self.now.room) s.index read refl
-    (ap (λ (n : Node). length (blocks_of n.kind)) c.change.ensures ∙ blocks) i
+    let blocks = ap (λ (n : Node). length (blocks_of n.kind)) c.change.ensures ∙ blocks_changed c.args.change c.index_mut.result.now.node in
+    let free = free_set c.args.self.now.entries.items c.args.at.index c.index_mut.result.now (record c.index_mut.result.now { node = c.change.new.self }) read refl in
+    λ i. record { node = free i; block = λ s. room_set c.args.self.now.entries.items c.args.at.index c.index_mut.result.now (record c.index_mut.result.now { node = c.change.new.self }) (vec_capacity c.args.self.now.room) s.index read blocks i }

@@ -2,7 +2,7 @@ use Rattle.std.proofs.Common.{arith, refl, Some, ◌∙◌, vec_capacity}
 use Rattle.std.proofs.lemmas.Option.{slice_get_read}
 use Rattle.nn_tree.specs.Plain.{links_of}
 use Rattle.nn_tree.proofs.PlainLemmas.{has_within}
-use Rattle.nn_tree.proofs.RoomLemmas.{room_set}
+use Rattle.nn_tree.proofs.RoomLemmas.{free_set, room_set}
 use Rattle.nn_tree.proofs.PlainClauses.{moved_entry, limits_moved}
 use Rattle.nn_tree.proofs.plain.PlainTreeTree.relink.Goals as goal
 
@@ -30,5 +30,7 @@ returns-clause-keeps c =
 pub returns-clause-room : goal.returns-clause-room
 returns-clause-room c =
     let read = slice_get_read c.args.self.now.entries.items _ c.args.at.index c.index_mut-entry.result.now refl (has_within c.args.self.now.entries.items c.args.at.index c.args.self.now.tree c.requires.there) c.index_mut-entry.ensures.value in
-    λ s has ready.
-    room_set c.args.self.now.entries.items c.args.at.index c.index_mut-entry.result.now (record { live = c.index_mut-entry.result.now.live; parent = c.args.parent.index; name = Some c.args.name; node = c.index_mut-entry.result.now.node }) (vec_capacity c.args.self.now.room) s.index read refl refl ∙ ready
+    record {
+      node = λ ready. free_set c.args.self.now.entries.items c.args.at.index c.index_mut-entry.result.now _ read refl ∙ ready;
+      block = λ s has ready. room_set c.args.self.now.entries.items c.args.at.index c.index_mut-entry.result.now _ (vec_capacity c.args.self.now.room) s.index read refl ∙ ready;
+    }

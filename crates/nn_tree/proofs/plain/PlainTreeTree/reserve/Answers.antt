@@ -24,14 +24,14 @@ invariant_of-self-2 c =
     let m = more_of c.args.self.now.entries.items c.ensure_free.new.entries.items c.args.self.now.tree c.ensure_free.ensures.more in
     record { tree = m.tree; limits = subst IsWithinLimits (sym m.nodes) c.args.self.now.limits; in_range = c.args.self.now.in_range; empty = c.in_ok-reserve.ensures.len ∙ c.args.self.now.empty }
 
-pub returns-clause-ok : goal.returns-clause-ok
-returns-clause-ok c =
+pub returns-clause-block : goal.returns-clause-block
+returns-clause-block c =
     let m = more_of c.args.self.now.entries.items c.ensure_free.new.entries.items c.args.self.now.tree c.ensure_free.ensures.more in
     let within = has_within c.args.self.now.entries.items c.args.at.index c.args.self.now.tree c.requires in
     let read = slice_get_read c.args.self.now.entries.items _ c.args.at.index c.index.result.now refl within c.index.ensures in
     let blocks : blocks_in_at c.ensure_free.new.entries.items c.args.at.index ≡ c.block_count-count.result = m.blocks c.args.at.index within ∙ ap (λ o. option_map_or blocks_in o 0) read ∙ sym c.block_count-count.ensures in
     let enough : c.block_count-count.result < vec_capacity c.reserve.new.self = omega (arith, c.in_ok-reserve.ensures.ok) in
-    room_made c.ensure_free.new.entries.items (vec_capacity c.reserve.new.self) c.args.at.index c.block_count-count.result c.in_ok-ensure_free.ensures.ok blocks enough
+    room_made c.ensure_free.new.entries.items (vec_capacity c.reserve.new.self) c.args.at.index c.block_count-count.result blocks enough
 
 pub returns-in_err-ensure_free-clause-means : goal.returns-in_err-ensure_free-clause-means
 returns-in_err-ensure_free-clause-means c =
