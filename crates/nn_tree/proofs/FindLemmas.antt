@@ -141,6 +141,9 @@ drop_all (x ∷ p) = drop_all p
 pub arrived : (g : Links) (path : Names) (k a : ℕ) → IsTree g → Here g path k a → k ≡ length path → (has_place g a ≡ true) × (place_of g a ≡ path) × (is_some (get (nodes_of g) path) ≡ true) × (obstacle (nodes_of g) path ≡ None)
 arrived g path k a t here all =
     let at : path_at g a ≡ Some path = here.at ∙ ap (λ k. Some (take k path)) all ∙ ap Some (take-length path) in
-    let l = path_live g a path at in
-    (ap is_some at, ap (λ o. unwrap_or o []) at, ap is_some (node_found g a path l.0 t at l.1),
-     here.way ∙ ap (λ k. obstacle_from (nodes_of g) (take k path) (drop k path)) all ∙ ap (obstacle_from (nodes_of g) (take (length path) path)) (drop_all path))
+    let l = path_live g a path at in (
+      ap is_some at,
+      ap (λ o. unwrap_or o []) at,
+      ap is_some (node_found g a path l.0 t at l.1),
+      here.way ∙ ap (λ k. obstacle_from (nodes_of g) (take k path) (drop k path)) all ∙ ap (obstacle_from (nodes_of g) (take (length path) path)) (drop_all path),
+    )

@@ -1,8 +1,10 @@
 -- Prefixes of paths, and where a path goes that is moved.
-use Rattle.std.proofs.Common.{◌≡◌, ◌≢◌, ℕ, zero, suc, ◌≤◌, Bool, true, false, cond, List, [], ◌∷◌, ◌++◌, ◌&&◌, length, take, drop, refl, sym, ap, ◌∙◌, arith, nat_eq, length-append, append_assoc, append-nil}
+use Rattle.std.proofs.Common.{◌+◌, ◌<◌, ◌≡◌, ◌≢◌, ℕ, zero, suc, ◌≤◌, Bool, true, false, cond, List, [], ◌∷◌, ◌++◌, ◌&&◌, length, take, drop, refl, sym, ap, ◌∙◌, arith, nat_eq, length-append, append_assoc, append-nil, ◌-◌, Some, get_or}
 use Rattle.std.specs.Cmp.Lexicographic.{pointwise, bytes_decides}
 use Rattle.std.proofs.Math.Seq.{take-length}
-use Rattle.std.proofs.lemmas.List.{take-append-le}
+use Rattle.std.specs.Prelude.{slice_get}
+use Rattle.std.proofs.lemmas.Option.{slice_get-get_or}
+use Rattle.std.proofs.lemmas.List.{take-append-le, take_more}
 use Rattle.nn_base.specs.Paths.{Names, Bytes, is_under}
 use Rattle.nn_tree.specs.Changes.{moved}
 
@@ -78,3 +80,21 @@ module _ (s d : Names) where
 
   pub moved_in : (q : Names) → is_under s q ≡ true → moved s d q ≡ d ++ drop (length s) q
   moved_in q h = ap (λ b. cond b (d ++ drop (length s) q) q) h
+
+-- ---- for callers: a path is the one of its directory, and its name
+
+pub front_and_name : (p above : Names) (name x : Bytes) (n : ℕ) → n ≡ length p → 0 < n → above ≡ take (length p - 1) p → slice_get p (n - 1) ≡ Some x → name ≡ x → p ≡ above ++ name ∷ []
+front_and_name p above name x n depth below_root front last same =
+    let k : n - 1 ≡ length p - 1 = omega arith in
+    let read : slice_get p (length p - 1) ≡ Some x = ap (slice_get p) (sym k) ∙ last in
+    let within : length p - 1 < length p = omega arith in
+    let whole : (length p - 1) + 1 ≡ length p = omega arith in
+    let is : get_or p (length p - 1) x ≡ x = let h = slice_get-get_or p (length p - 1) x within in cc in
+    sym (take-length p) ∙ ap (λ n. take n p) (sym whole) ∙ take_more p (length p - 1) x within ∙ (λ i. sym front i ++ (is ∙ sym same) i ∷ [])
+
+-- no path is below a longer one
+pub not_under_longer : (p q : Names) → length q < length p → is_under p q ≡ false
+not_under_longer p q shorter = elim (is_under p q) as (λ b. is_under p q ≡ b → b ≡ false) [
+  | true ↦ λ h. (let l = under_long p q h in absurd (omega arith))
+  | false ↦ λ h. refl
+] refl

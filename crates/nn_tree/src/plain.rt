@@ -169,3 +169,6 @@ impl Tree for PlainTree {
         entry.name = Some(name);
     }
 }
+
+#[cfg(test)]
+mod tests;
