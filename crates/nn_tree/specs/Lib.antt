@@ -1,0 +1,10 @@
+pub mod Totals
+pub mod Nodes
+pub mod Namespace
+pub mod Limits
+pub mod Changes
+pub mod Walks
+pub mod Spots
+pub mod Slots
+pub mod Links
+pub mod Plain
