@@ -9,6 +9,9 @@ use nn_base::NoMemory;
 /// The most bytes that a varint has.
 const LONGEST: usize = 10;
 
+/// The greatest that the last of so many may be: nine times seven bits leave one.
+const GREATEST_LAST: u8 = 1;
+
 fn spelled(value: u64) -> ([u8; LONGEST], usize)
     ensures text { take result.1 result.0 ≡ varint value }
     ensures len { result.1 ≤ LONGEST }
@@ -50,8 +53,7 @@ pub(crate) fn varint_read(bytes: &[u8]) -> Result<(u64, usize), WireFault>
         if place > 0 && *byte == 0 {
             return Err(WireFault::NotCanonical);
         }
-        // The tenth byte has room for the highest bit alone.
-        if place == LONGEST - 1 && *byte > 1 {
+        if place == LONGEST - 1 && *byte > GREATEST_LAST {
             return Err(WireFault::NotCanonical);
         }
         value |= u64::from(*byte % 128) << (7 * place);
