@@ -1,7 +1,8 @@
 -- A field that is read is the one that stands there, and no fault does.
-use Rattle.std.proofs.Common.{◌≡◌, ℕ, ◌+◌, ◌-◌, ◌*◌, ◌/◌, ◌%◌, ◌<◌, ◌≤◌, ◌⊎◌, List, ◌++◌, length, take, drop, append_assoc, length-append, length-drop, length-take, Result, Ok, Err, refl, sym, ap, subst, ◌∙◌, inl, inr, arith}
-use Rattle.std.specs.Prelude.{IfOk, IfErr}
-use Rattle.std.proofs.lemmas.List.{drop-drop, take-append-drop}
+use Rattle.std.proofs.Common.{◌≡◌, ℕ, ◌+◌, ◌-◌, ◌*◌, ◌/◌, ◌%◌, ◌<◌, ◌≤◌, ◌⊎◌, List, ◌++◌, length, get_or, take, drop, append_assoc, length-append, length-drop, length-take, Result, Ok, Err, refl, sym, ap, subst, ◌∙◌, inl, inr, arith}
+use Rattle.std.specs.Prelude.{◌↔◌, IfOk, IfErr}
+use Rattle.std.proofs.lemmas.Bool.{cases_lt}
+use Rattle.std.proofs.lemmas.List.{drop-drop, take-append-drop, get_or-drop}
 use Rattle.nn_wire.specs.declared.fault.WireFault.{WireFault}
 use Rattle.nn_wire.specs.declared.field.Field.{Field}
 use Rattle.nn_wire.specs.declared.field.Kind.{Kind}
@@ -9,7 +10,7 @@ use Rattle.nn_wire.specs.declared.field.Kind.TheVariants.{Varint, Bytes}
 use Rattle.nn_wire.specs.Varint.{varint, Begins}
 use Rattle.nn_wire.specs.Field.{IsNumber, kind_code, IsVarintAt, AreBytesAt, IsFieldAt}
 use Rattle.nn_wire.specs.Fault.{IsVarintFault, IsKey, IsFieldFault, in_key, is_no_key, in_value, past_end}
-use Rattle.nn_wire.proofs.SpellingLemmas.{varint_some}
+use Rattle.nn_wire.proofs.SpellingLemmas.{spelled_last, spelled_more, varint_some}
 use Rattle.nn_wire.proofs.FaultLemmas.{one_begins, no_fault, one_fault}
 
 -- ---- what was read stands there
@@ -183,3 +184,24 @@ field_again (Err fault) bytes at field ok err is = absurd (field_no_fault bytes 
 pub field_cause : (r : Result Field WireFault) (bytes : List ℕ) (at : ℕ) (fault : WireFault) → IfOk r (IsFieldAt bytes at) → IfErr r (IsFieldFault (drop at bytes)) → IsFieldFault (drop at bytes) fault → r ≡ Err fault
 field_cause (Ok other) bytes at fault ok err wrong = absurd (field_no_fault bytes at other fault ok wrong)
 field_cause (Err other) bytes at fault ok err wrong = ap (λ f. Err f) (one_field_fault (drop at bytes) other fault err wrong)
+
+-- ---- the kind shows in the first byte
+
+first_byte : (k : ℕ) (rest : List ℕ) → get_or (varint k ++ rest) 0 0 % 8 ≡ k % 8
+unfolding varint
+first_byte k rest = elim (cases_lt k 128) [
+  | inl low ↦ ap (λ t. get_or (t ++ rest) 0 0 % 8) (spelled_last 9 k low)
+  | inr high ↦ ap (λ t. get_or (t ++ rest) 0 0 % 8) (spelled_more 9 k high) ∙ omega arith
+]
+
+kind_shown : (bytes : List ℕ) (at key : ℕ) (text rest : List ℕ) → drop at bytes ≡ varint key ++ text ++ rest → get_or bytes at 0 % 8 ≡ key % 8
+kind_shown bytes at key text rest is =
+    let here : at + 0 ≡ at = omega arith in
+    ap (λ k. get_or bytes k 0 % 8) (sym here) ∙ ap (λ b. b % 8) (sym (get_or-drop at bytes 0 0))
+    ∙ ap (λ t. get_or t 0 0 % 8) (is ∙ append_assoc (varint key) text rest) ∙ first_byte key (text ++ rest)
+
+pub field_kind : (bytes : List ℕ) (at : ℕ) (field : Field) → IsFieldAt bytes at field → (get_or bytes at 0 % 8 ≡ 0) ↔ IsVarintAt bytes at field
+field_kind bytes at field is = (
+  (λ e. elim is [ inl v ↦ v | inr b ↦ absurd (omega (arith, e, kind_shown bytes at (8 * field.number + 2) _ _ b.1.text)) ]),
+  (λ v. kind_shown bytes at (8 * field.number) _ _ v.text ∙ omega arith),
+)

@@ -15,6 +15,7 @@ IsVarintFault bytes BadKey = ⊥
 abbrev pub IsKey : ℕ → Type 0
 IsKey key = IsNumber (key / 8) × ((key % 8 ≡ 0) ⊎ (key % 8 ≡ 2))
 
+-- the first fault from the left of the field that should stand at the front of the bytes
 pub data IsFieldFault (bytes : List ℕ) (fault : WireFault) : Type 0 where
   -- no varint stands in the key's place
   in_key : IsVarintFault bytes fault → IsFieldFault bytes fault

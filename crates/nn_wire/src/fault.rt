@@ -11,7 +11,8 @@ pub enum WireFault {
     /// The number is 0 or above 2^29 - 1, or the kind is neither 0 nor 2.
     #[error("the key has no such number or kind")]
     BadKey,
-    /// A varint has a needless last byte of 0, or is above 2^64 - 1.
+    /// A varint has a needless last byte of 0, or is above 2^64 - 1, as one of ten bytes that all say that another
+    /// follows would be.
     #[error("the varint is not in its one form")]
     NotCanonical,
 }

@@ -1,17 +1,17 @@
 // Fields: a key, and a varint or bytes.
-ghost use Rattle.std.specs.Prelude.{◌≡◌, ◌+◌, ◌*◌, ◌<◌, ◌≤◌, length, drop, IfOk, IfErr, Ok, Err};
+ghost use Rattle.std.specs.Prelude.{◌≡◌, ◌↔◌, ◌+◌, ◌*◌, ◌%◌, ◌<◌, ◌≤◌, length, drop, slice_index, IfOk, IfErr, Ok, Err};
 ghost use Rattle.nn_wire.specs.declared.fault.WireFault.{WireFault};
 ghost use Rattle.nn_wire.specs.declared.fault.WireFault.TheVariants.{BadKey};
 ghost use Rattle.nn_wire.specs.declared.field.Field.{Field};
 ghost use Rattle.nn_wire.specs.Varint.{varint, Begins};
-ghost use Rattle.nn_wire.specs.Field.{IsNumber, IsFieldAt, kind_code};
+ghost use Rattle.nn_wire.specs.Field.{IsNumber, IsVarintAt, IsFieldAt, kind_code};
 ghost use Rattle.nn_wire.specs.Fault.{IsVarintFault, IsKey, IsFieldFault};
 
 use crate::fault::WireFault;
 use crate::varint::varint_read;
 
-/// A field as it was read. Whether it is a varint or bytes, its key says: 0 or 2 are the lowest three bits of the byte
-/// at the field's place.
+/// A field as it was read. It doesn't tell a varint from bytes: the lowest three bits of the byte at its place do, 0
+/// for a varint and 2 for bytes.
 #[derive(Clone, Copy, Debug, PartialEq, Eq)]
 pub struct Field {
     /// 1 to 2^29 - 1.
@@ -62,6 +62,7 @@ fn varint_at(bytes: &[u8], at: usize) -> Result<(u64, usize), WireFault>
     Ok((value, at + len))
 }
 
+// `field_get`, by what the rest of its contract follows from.
 fn field_read(bytes: &[u8], at: usize) -> Result<Field, WireFault>
     requires { at ≤ length bytes.now }
     ensures ok { IfOk result (λ field. IsFieldAt bytes.now at field) }
@@ -97,6 +98,9 @@ pub fn field_get(bytes: &[u8], at: usize) -> Result<Field, WireFault>
     ensures ok { IfOk result (λ field. IsFieldAt bytes.now at field) }
     ensures err { IfErr result (λ fault. IsFieldFault (drop at bytes.now) fault) }
     ensures within { IfOk result (λ field. (at < field.start) × (field.start ≤ field.end) × (field.end ≤ length bytes.now)) }
+
+    // Else it is bytes.
+    ensures kind { IfOk result (λ field. (slice_index bytes.now at % 8 ≡ 0) ↔ IsVarintAt bytes.now at field) }
 
     // Where a field stands it is the answer, and where there is a fault, that is.
     ensures again { (field : Field) → IsFieldAt bytes.now at field → result ≡ Ok field }

@@ -70,7 +70,7 @@ fn field(number: u32, value: u64, start: usize, end: usize) -> Result<Field, Wir
 // The last field number of Protocol Buffers is 536,870,911.
 #[test]
 fn a_field_is_read_or_its_first_fault_is_named(rt: HostRuntime) {
-    let cases: [(&[u8], usize, Result<Field, WireFault>); 16] = [
+    let cases: [(&[u8], usize, Result<Field, WireFault>); 17] = [
         (&[8, 150, 1], 0, field(1, 150, 3, 3)),
         (&[9, 8, 150, 1, 7], 1, field(1, 150, 4, 4)),
         (&[18, 2, 104, 105], 0, field(2, 2, 2, 4)),
@@ -83,6 +83,7 @@ fn a_field_is_read_or_its_first_fault_is_named(rt: HostRuntime) {
         (&[18, 3, 104, 105], 0, Err(WireFault::Short)),
         (&[136, 0, 1], 0, Err(WireFault::NotCanonical)),
         (&[8, 150, 0], 0, Err(WireFault::NotCanonical)),
+        (&[128; 10], 0, Err(WireFault::NotCanonical)),
         (&[0, 1], 0, Err(WireFault::BadKey)),
         (&[128, 128, 128, 128, 16, 0], 0, Err(WireFault::BadKey)),
         (&[9], 0, Err(WireFault::BadKey)),

@@ -70,7 +70,10 @@ pub fn varint_get(bytes: &[u8]) -> Option<(u64, usize)>
     ensures some { IfSome result (λ found. Begins bytes.now found.0 (drop found.1 bytes.now)) }
     ensures len { IfSome result (λ found. (found.1 ≡ length (varint found.0)) × (found.1 ≤ length bytes.now)) }
 
-    // None exactly where no front is a varint, and what was put is got again, whatever follows.
+    // It is what the grammar says of a front, and None exactly where that says nothing of any.
+    ensures exact { (n len : ℕ) → (result ≡ Some (n, len)) ↔ ((len ≤ length bytes.now) × IsVarint (take len bytes.now) n) }
+
+    // What was put is got again, whatever follows.
     ensures again { (n : ℕ) (rest : List ℕ) → Begins bytes.now n rest → result ≡ Some (n, length (varint n)) }
 {
     varint_read(bytes).ok()
