@@ -1,6 +1,6 @@
 -- The register's step is linear over exclusive-or, so a byte may go by a table: what its eight bits come to was divided before.
 use Rattle.std.proofs.Common.{List, [], ◌∷◌, fold, length, drop, get_or, length-drop, ◌≡◌, ℕ, zero, suc, ◌+◌, ◌*◌, ◌/◌, ◌%◌, ◌^◌, ◌<◌, refl, sym, ap, ◌∙◌, arith, bit_xor}
-use Rattle.std.specs.Int.Bits.{xor_assoc, xor_zero_r, xor_shifted}
+use Rattle.std.specs.Int.Bits.{xor_self, xor_assoc, xor_zero_r, xor_shifted}
 use Rattle.std.proofs.Math.Nat.{pow-suc, zero-add, suc-add, mul-one, mul_assoc}
 use Rattle.std.proofs.lemmas.Nat.{xor_comm, xor_shr, xor_mod}
 use Rattle.std.proofs.lemmas.List.{at_drop_more}
@@ -105,3 +105,10 @@ chunk_step after left b p n chunk within is small counts =
     xor_assoc after (next_bits (8 * n) low) (fold with_byte (left / 256) rest)
     ∙ ap (λ k. bit_xor after (bit_xor (next_bits (8 * k) low) (fold with_byte (left / 256) rest))) count
     ∙ ap (bit_xor after) (sym (fold-slice left b rest small) ∙ sym first)
+
+-- what is taken in and again is gone
+pub xor_around : (d f : ℕ) → bit_xor (bit_xor d f) d ≡ f
+xor_around d f = ap (λ x. bit_xor x d) (xor_comm d f) ∙ xor_assoc f d d ∙ ap (bit_xor f) (xor_self d) ∙ xor_zero_r f
+
+pub xor_twice : (a d : ℕ) → bit_xor (bit_xor a d) d ≡ a
+xor_twice a d = xor_assoc a d d ∙ ap (bit_xor a) (xor_self d) ∙ xor_zero_r a

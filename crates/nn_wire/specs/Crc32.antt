@@ -1,7 +1,7 @@
 -- The checksum CRC-32 of a text, by one bit at a time: that of Ethernet (IEEE 802.3), gzip (RFC 1952) and `java.util.zip.CRC32`.
 use Rattle.std.specs.Prelude.{ℕ, zero, suc, ◌*◌, ◌/◌, ◌%◌, List, fold, bit_xor}
 
--- The divisor, with the bit of x ^ 31 lowest and that of 1 highest. That of x ^ 32 stands for itself.
+-- the divisor x^32 + x^26 + x^23 + x^22 + x^16 + x^12 + x^11 + x^10 + x^8 + x^7 + x^5 + x^4 + x^2 + x + 1 without its first term, x^31 in the lowest bit
 abbrev pub polynomial : ℕ
 polynomial = 0xEDB8_8320
 

@@ -4,6 +4,9 @@ ghost use Rattle.nn_wire.specs.Crc32.{next_bits, with_byte, crc32_of};
 
 use crate::table::{SHIFTED, SLICES};
 
+/// The bytes of the register.
+const REGISTER_LEN: usize = 4;
+
 // What is left of the register's low byte after `8 * (place + 1)` more bits.
 #[inline(always)]
 fn low_shifted(register: u32, place: usize) -> u32
@@ -20,18 +23,21 @@ fn after_byte(register: u32, byte: u8) -> u32
     low_shifted(register ^ u32::from(byte), 0) ^ (register >> 8)
 }
 
-// The look-ups don't wait for one another, as they do byte by byte.
 #[inline(always)]
 fn after_chunk(register: u32, chunk: &[u8; SLICES]) -> u32
     ensures { result ≡ fold with_byte register chunk.now }
 {
     let mut after = 0;
+    // The later bytes don't meet the register, so these look-ups needn't wait for the chunk before.
+    'later: for place in REGISTER_LEN..SLICES {
+        after ^= low_shifted(u32::from(chunk[place]), SLICES - 1 - place);
+    }
     let mut left = register;
-    for (place, byte) in chunk.iter().enumerate() {
-        after ^= low_shifted(left ^ u32::from(*byte), SLICES - 1 - place);
+    'first: for place in 0..REGISTER_LEN {
+        after ^= low_shifted(left ^ u32::from(chunk[place]), SLICES - 1 - place);
         left >>= 8;
     }
-    after ^ left
+    after
 }
 
 /// The CRC-32 of the bytes: polynomial 0xEDB88320 in reflected order, start and final exclusive-or all ones. It is
