@@ -1,5 +1,5 @@
 // Decimal numbers, as they stand in the names and the small files of a name directory.
-ghost use Rattle.std.specs.Prelude.{◌≡◌, ◌≤◌, IsTrue, length};
+ghost use Rattle.std.specs.Prelude.{◌≡◌, ◌<◌, ◌≤◌, ◌^◌, IfSome, IsTrue, length};
 ghost use Rattle.std.specs.List.{list_all};
 ghost use Rattle.std.specs.Char.{is_ascii_digit};
 ghost use Rattle.std.specs.Str.Parse.{digits_value};
@@ -11,7 +11,8 @@ pub const ID_DIGITS: usize = 19;
 /// The number that 1 to 19 decimal digits write, leading zeros allowed. None for any other text and from 2^63 on, which
 /// Hadoop's signed `long` doesn't hold.
 pub fn number(text: &[u8]) -> Option<u64>
-    ensures { result ≡ number_in text.now }
+    ensures value { result ≡ number_in text.now }
+    ensures small { IfSome result (λ number. number < 2 ^ 63) }
 {
     if text.is_empty() || ID_DIGITS < text.len() {
         return None;

@@ -9,10 +9,10 @@ pub returns-then-text-ne-ID_DIGITS-clause-only : goal.returns-then-text-ne-ID_DI
 returns-then-text-ne-ID_DIGITS-clause-only c = λ id small e. absurd (omega (arith, ap length e, length-id_text id))
 
 pub returns-in_err-id-clause-only : goal.returns-in_err-id-clause-only
-returns-in_err-id-clause-only c = λ id small e. absurd (none-some id (c.in_err-id.ensures ∙ ap number_in e ∙ number_in-id_text id small))
+returns-in_err-id-clause-only c = λ id small e. absurd (none-some id (c.in_err-id.ensures.value ∙ ap number_in e ∙ number_in-id_text id small))
 
 pub returns-clause-found : goal.returns-clause-found
-returns-clause-found c = id_from_text c.args.text.now c.in_ok-id.id (omega arith) (sym c.in_ok-id.ensures)
+returns-clause-found c = id_from_text c.args.text.now c.in_ok-id.id (omega arith) (sym c.in_ok-id.ensures.value)
 
 pub returns-clause-only : goal.returns-clause-only
-returns-clause-only c = λ id small e. c.in_ok-id.ensures ∙ ap number_in e ∙ number_in-id_text id small
+returns-clause-only c = λ id small e. c.in_ok-id.ensures.value ∙ ap number_in e ∙ number_in-id_text id small

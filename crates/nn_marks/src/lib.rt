@@ -1,0 +1,12 @@
+//! The three small files beside an image and its journal, VERSION, `seen_txid` and the MD5 file: a value comes exactly where
+//! the text has it, a fault is the first of its order, and what is written reads back as itself.
+//! It knows nothing of folders or disks.
+#![tactic(auto)]
+
+mod digest;
+mod seen;
+#[cfg(test)]
+mod tests;
+
+pub use digest::{md5_read, md5_text};
+pub use seen::{seen_read, seen_text};
