@@ -1,2 +1,5 @@
 pub mod SeenLemmas
 pub mod DigestLemmas
+pub mod LinesLemmas
+pub mod LineFaults
+pub mod KeysLemmas

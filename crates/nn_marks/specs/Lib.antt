@@ -1,2 +1,5 @@
 pub mod Digest
+pub mod Given
 pub mod Seen
+pub mod Version
+pub mod VersionFaults

@@ -4,9 +4,15 @@
 #![tactic(auto)]
 
 mod digest;
+mod fault;
+mod key;
+mod line_check;
+mod lines;
 mod seen;
 #[cfg(test)]
 mod tests;
 
 pub use digest::{md5_read, md5_text};
+pub use fault::VersionFault;
+pub use key::Key;
 pub use seen::{seen_read, seen_text};
