@@ -3,3 +3,4 @@ pub mod Given
 pub mod Seen
 pub mod Version
 pub mod VersionFaults
+pub mod VersionText

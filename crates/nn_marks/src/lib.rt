@@ -11,8 +11,12 @@ mod lines;
 mod seen;
 #[cfg(test)]
 mod tests;
+mod version;
+mod version_reading;
 
 pub use digest::{md5_read, md5_text};
 pub use fault::VersionFault;
 pub use key::Key;
 pub use seen::{seen_read, seen_text};
+pub use version::Version;
+pub use version_reading::version_read;
