@@ -69,7 +69,7 @@ passes_if_first : (test : Key → Bool) (ks : List Key) (key : Key) → first_of
 passes_if_first test [] key e = absurd (none-some key e)
 passes_if_first test (k ∷ ks) key e = go (test k) (passes_if_first test ks key) refl e where
   go : (b : Bool) → (first_of (map (λ x. cond (test x) (Some x) None) ks) ≡ Some key → test key ≡ true) → test k ≡ b
-    → first_of (cond b (Some k) None ∷ map (λ x. cond (test x) (Some x) None) ks) ≡ Some key → test key ≡ true
+      → first_of (cond b (Some k) None ∷ map (λ x. cond (test x) (Some x) None) ks) ≡ Some key → test key ≡ true
   go true rest t f = ap test (sym (same_Some k key f)) ∙ t
   go false rest t f = rest f
 
@@ -105,13 +105,13 @@ pub marks_set : (flags : List Bool) (lines : List Line) (line : Line) (key : Key
     → Marks (set flags (place_of key) true) (lines ++ line ∷ [])
 marks_set flags lines line key long some marks = λ k. elim (cases_eq (place_of k) (place_of key)) [
   | inl same ↦
-    let e = place_is_injective k key same in
-    let within : place_of k < length flags = omega (arith, place_below k, long) in
-    ap (λ n. get_or (set flags n true) (place_of k) false) (sym same) ∙ get_or-set_same flags (place_of k) true false within
-    ∙ sym (ap is_some (value_of-push k lines line) ∙ is_some-or_some (value_of k lines) (value_in k line) (value_from_key k line (some ∙ ap Some (sym e))))
+      let e = place_is_injective k key same in
+      let within : place_of k < length flags = omega (arith, place_below k, long) in
+      ap (λ n. get_or (set flags n true) (place_of k) false) (sym same) ∙ get_or-set_same flags (place_of k) true false within
+      ∙ sym (ap is_some (value_of-push k lines line) ∙ is_some-or_some (value_of k lines) (value_in k line) (value_from_key k line (some ∙ ap Some (sym e))))
   | inr apart ↦
-    get_or-set_other flags (place_of key) (place_of k) true false apart ∙ marks k
-    ∙ sym (same_given k lines line (λ e. apart (ap place_of (same_Some k key (sym e ∙ some)))))
+      get_or-set_other flags (place_of key) (place_of k) true false apart ∙ marks k
+      ∙ sym (same_given k lines line (λ e. apart (ap place_of (same_Some k key (sym e ∙ some)))))
 ]
 
 pub marks_none : Marks (false ∷ false ∷ false ∷ false ∷ false ∷ false ∷ []) []

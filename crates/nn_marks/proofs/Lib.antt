@@ -3,3 +3,4 @@ pub mod DigestLemmas
 pub mod LinesLemmas
 pub mod LineFaults
 pub mod KeysLemmas
+pub mod VersionTextLemmas

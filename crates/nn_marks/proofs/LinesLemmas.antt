@@ -18,7 +18,7 @@ lines_more : (part : List ℕ) (parts : List (List ℕ)) → 0 < length parts �
 lines_more part [] some = absurd (omega arith)
 lines_more part (x ∷ more) some = refl
 
-lines-append : (line rest : List ℕ) → All (λ byte. is_newline byte ≡ false) line → lines (line ++ 10 ∷ rest) ≡ strip_carriage_return line ∷ lines rest
+pub lines-append : (line rest : List ℕ) → All (λ byte. is_newline byte ≡ false) line → lines (line ++ 10 ∷ rest) ≡ strip_carriage_return line ∷ lines rest
 lines-append line rest none =
     ap lines_of_parts (slice_split_at is_newline line 10 rest none refl)
     ∙ lines_more line (slice_split is_newline rest) (omega (arith, length-slice_split is_newline rest))
@@ -28,10 +28,10 @@ lines_at_newline text end e =
     let first = position-Some is_newline text end 0 e in
     let here : get_or text end 0 ≡ 10 = eqb-true (get_or text end 0) 10 first.1 in
     let whole : text ≡ take end text ++ 10 ∷ drop (end + 1) text =
-        sym (take-append-drop end text) ∙ ap (λ back. take end text ++ back) (drop_more text end 0 first.0 ∙ ap (λ byte. byte ∷ drop (end + 1) text) here) in
+    sym (take-append-drop end text) ∙ ap (λ back. take end text ++ back) (drop_more text end 0 first.0 ∙ ap (λ byte. byte ∷ drop (end + 1) text) here) in
     let before : All (λ byte. is_newline byte ≡ false) (take end text) = λ k d h.
-        let below : k < end = omega (arith, length-take-le end text (omega (arith, first.0))) in
-        ap is_newline (get_or-take end text k d below ∙ get_or_default text k d 0 (omega (arith, first.0))) ∙ first.2 k below in
+    let below : k < end = omega (arith, length-take-le end text (omega (arith, first.0))) in
+    ap is_newline (get_or-take end text k d below ∙ get_or_default text k d 0 (omega (arith, first.0))) ∙ first.2 k below in
     ap lines whole ∙ lines-append (take end text) (drop (end + 1) text) before
 
 not_true : (b : Bool) → not b ≡ true → b ≡ false

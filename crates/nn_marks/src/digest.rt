@@ -3,8 +3,8 @@ ghost use Rattle.std.specs.Prelude.{◌≡◌, ℕ, ◌+◌, ◌<◌, ◌≤◌,
 ghost use Rattle.hex.specs.Hex.{encode_lower, IsBytes};
 ghost use Rattle.nn_marks.specs.Digest.{md5_text_of};
 
-use nn_base::decimal::{id_digits, number};
 use nn_base::Txid;
+use nn_base::decimal::{id_digits, number};
 
 /// How many bytes an MD5 file has: 32 digits, a space, `*`, the name of the image and a newline.
 pub const MD5_BYTES: usize = 62;
@@ -24,7 +24,11 @@ pub fn md5_read(bytes: &[u8]) -> Option<([u8; 16], Txid)>
     let id = Txid(number(&name[10..29])?);
     let mut text = [0; 80];
     let len = md5_text(&digest, id, &mut text);
-    if &text[..len] == bytes { Some((digest, id)) } else { None }
+    if &text[..len] == bytes {
+        Some((digest, id))
+    } else {
+        None
+    }
 }
 
 /// Writes the MD5 file of an image to the front of `out`, and answers its length, 62 bytes. It is as `md5sum` writes it for a

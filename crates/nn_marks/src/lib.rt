@@ -13,6 +13,7 @@ mod seen;
 mod tests;
 mod version;
 mod version_reading;
+mod version_writing;
 
 pub use digest::{md5_read, md5_text};
 pub use fault::VersionFault;
@@ -20,3 +21,4 @@ pub use key::Key;
 pub use seen::{seen_read, seen_text};
 pub use version::Version;
 pub use version_reading::version_read;
+pub use version_writing::version_text;

@@ -3,8 +3,8 @@ ghost use Rattle.std.specs.Prelude.{◌≡◌, ◌≢◌, ◌⊎◌, ℕ, ◌≤
 ghost use Rattle.nn_marks.specs.Seen.{seen_text_of, IsSeenText};
 
 use itoa::Buffer;
-use nn_base::decimal::number;
 use nn_base::Txid;
+use nn_base::decimal::number;
 
 /// The id in a `seen_txid` file: 1 to 19 digits that write a number below 2^63, with or without a newline behind them.
 /// None for any other text. It is the file of Hadoop's `PersistentLongFile`, whose `Long.parseLong` takes a sign too.

@@ -1,5 +1,6 @@
 // What a VERSION file says.
-ghost use Rattle.std.specs.Prelude.{◌<◌, ◌≤◌, ◌^◌, pos, negsuc, ◌<ℤ◌, ◌≤ℤ◌};
+ghost use Rattle.std.specs.Prelude.{◌<◌, ◌≤◌, IsTrue, ◌^◌, pos, negsuc, ◌<ℤ◌, ◌≤ℤ◌};
+ghost use Rattle.nn_base.specs.Words.{is_word};
 
 use nn_base::Word;
 
@@ -18,7 +19,9 @@ pub struct Version {
     pub layout: i32,
     pub ghost some_namespace: { 1 ≤ namespace },
     pub ghost namespace_fits: { namespace ≤ 2147483647 },
+    pub ghost cluster_is_word: { IsTrue (is_word cluster) },
     pub ghost ctime_fits: { ctime < 2 ^ 63 },
+    pub ghost blockpool_is_word: { IsTrue (is_word blockpool) },
     pub ghost layout_is_negative: { layout <ℤ pos 0 },
     pub ghost layout_fits: { negsuc 2147483646 ≤ℤ layout },
 }

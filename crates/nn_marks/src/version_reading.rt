@@ -3,6 +3,7 @@ ghost use Rattle.std.specs.Prelude.{◌≡◌, ◌<◌, ◌≤◌, ◌^◌, IsTr
 ghost use Rattle.std.specs.List.{list_all};
 ghost use Rattle.std.specs.Str.Lines.{lines};
 ghost use Rattle.std.specs.Str.Parse.{digits_value};
+ghost use Rattle.nn_base.specs.Words.{is_word};
 ghost use Rattle.nn_marks.specs.declared.key.Key.TheVariants.{NamespaceId, ClusterId, CTime, StorageType, BlockpoolId, LayoutVersion};
 ghost use Rattle.nn_marks.specs.Version.{keys, value_of, first_of};
 ghost use Rattle.nn_marks.specs.VersionFaults.{fault_of, is_text_byte, is_value, is_positive, bad_value, key_fault};
@@ -11,8 +12,8 @@ ghost use Rattle.nn_marks.specs.VersionText.{IsVersionText, Says};
 use crate::line_check::line_fault;
 use crate::lines::value_of;
 use crate::{Key, Version, VersionFault};
-use nn_base::decimal::number;
 use nn_base::Word;
+use nn_base::decimal::number;
 
 /// The longest VERSION file that is read, in bytes.
 pub const MAX_VERSION: usize = 65_536;
@@ -39,9 +40,10 @@ pub fn version_read(bytes: &[u8]) -> Result<Version, VersionFault>
 fn is_text(bytes: &[u8]) -> bool
     ensures { result ≡ list_all is_text_byte bytes.now }
 {
-    bytes
-        .iter()
-        .all(|byte| *byte == b'\t' || *byte == b'\n' || *byte == b'\r' || (b' ' <= *byte && *byte <= b'~'))
+    bytes.iter().all(|byte| *byte == b'\t'
+        || *byte == b'\n'
+        || *byte == b'\r'
+        || (b' ' <= *byte && *byte <= b'~'))
 }
 
 // The values of all keys, or the first fault among them.
@@ -95,6 +97,7 @@ fn storage_type(text: &[u8]) -> Result<(), VersionFault>
 
 fn cluster(text: &[u8]) -> Result<Word, VersionFault>
     ensures ok { IfOk result (λ word. value_of ClusterId (lines text.now) ≡ Some word) }
+    ensures word { IfOk result (λ word. IsTrue (is_word word)) }
     ensures cause { MatchResult result (λ _. key_fault (lines text.now) ClusterId ≡ None) (λ fault. key_fault (lines text.now) ClusterId ≡ Some fault) }
 {
     let word = required(Key::ClusterId, text)?;
@@ -103,6 +106,7 @@ fn cluster(text: &[u8]) -> Result<Word, VersionFault>
 
 fn blockpool(text: &[u8]) -> Result<Word, VersionFault>
     ensures ok { IfOk result (λ word. value_of BlockpoolId (lines text.now) ≡ Some word) }
+    ensures word { IfOk result (λ word. IsTrue (is_word word)) }
     ensures cause { MatchResult result (λ _. key_fault (lines text.now) BlockpoolId ≡ None) (λ fault. key_fault (lines text.now) BlockpoolId ≡ Some fault) }
 {
     let word = required(Key::BlockpoolId, text)?;

@@ -10,5 +10,5 @@ returns-in_err-key-clause-given c = λ before marks none. marks_pass c.args.give
 pub returns-clause-given : goal.returns-clause-given
 returns-clause-given c = λ before marks none.
     let given : Marks (set c.args.given.now (place_of c.in_ok-key.key) true) (before ++ c.args.line.now ∷ []) =
-        marks_set c.args.given.now before c.args.line.now c.in_ok-key.key (omega arith) (sym c.in_ok-key.ensures) marks in
+    marks_set c.args.given.now before c.args.line.now c.in_ok-key.key (omega arith) (sym c.in_ok-key.ensures) marks in
     subst (λ (n : ℕ). Marks (set c.args.given.now n true) (before ++ c.args.line.now ∷ [])) (sym c.place-2.ensures) given
