@@ -1,0 +1,11 @@
+use Rattle.std.proofs.Common.{Some, None, inl, inr, refl}
+use Rattle.std.proofs.lemmas.Slice.Eq.{strip_suffix_is}
+use Rattle.std.proofs.lemmas.Bool.Decides.{Decides-eqb}
+use Rattle.std.specs.Prelude.{codes}
+use Rattle.nn_marks.proofs.seen.without_newline.Goals as goal
+
+pub returns-in-Some : goal.returns-in-Some
+returns-in-Some c = inl (strip_suffix_is Decides-eqb c.args.bytes.now (codes "\n") (Some c.in-Some.digits) c.in-Some.ensures.cases)
+
+pub returns-in-None : goal.returns-in-None
+returns-in-None c = inr (refl, strip_suffix_is Decides-eqb c.args.bytes.now (codes "\n") None c.in-None.ensures.cases)
