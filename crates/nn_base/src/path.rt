@@ -106,8 +106,9 @@ mod tests {
         for (bytes, is_name) in names {
             assert_eq!(rt; Name::of(alloc, bytes)?.is_some(), is_name, "at {bytes:?}");
         }
-        for (bytes, is_label) in [(0, false), (1, true), (32, true), (33, false)] {
-            assert_eq!(rt; Label::of(&long[..bytes]).is_some(), is_label, "at {bytes}");
+        for (len, is_label) in [(0, false), (1, true), (32, true), (33, false)] {
+            assert!(rt; len <= long.len());
+            assert_eq!(rt; Label::of(&long[..len]).is_some(), is_label, "at {len}");
         }
 
         let mut names = Vec::new(alloc);

@@ -4,15 +4,15 @@ use Rattle.std.proofs.lemmas.List.{append-nil, take-append-drop}
 use Rattle.nn_host.specs.Disk.{Reads}
 use Rattle.nn_host.specs.Moments.{State}
 use Rattle.nn_host.specs.Calls.{next_count}
-use Rattle.nn_host.specs.Runs.{AllAnswered}
-use Rattle.nn_host.proofs.RunsLemmas.{all_answered_trans}
+use Rattle.nn_host.specs.Runs.{AllAnswered, OutWhole, SilentAfter}
+use Rattle.nn_host.proofs.RunsLemmas.{all_answered_trans, out_whole_trans, silent_whole, silent_after}
 use Rattle.nn_cli.specs.declared.refusal.Refusal.{Refusal}
 use Rattle.nn_cli.specs.declared.status.Status.{Status}
 use Rattle.nn_cli.specs.declared.status.Status.TheVariants.{Ok, Usage, Refused, HostFault, Memory, OutFault}
 use Rattle.nn_cli.specs.Words.{Word}
 use Rattle.nn_cli.specs.Lines.{last_line}
 use Rattle.nn_cli.specs.States.{state_lines, first_refusal}
-use Rattle.nn_cli.specs.Answers.{HaveReading, Before, Means, SaysFront, Says, IsCausedBy, EndsBy, FailsOver, Closes, Ends, IsLast}
+use Rattle.nn_cli.specs.Answers.{HaveReading, Before, Means, SaysFront, Says, IsCausedBy, IsQuiet, EndsBy, FailsOver, Closes, Ends, IsLast}
 
 -- an output that failed over the lines of the directories
 lines_front : (words : List Word) (dirs : ℕ → Reads) (n : ℕ) (lines later : List ℕ) → HaveReading words → state_lines dirs n ≡ lines ++ later → SaysFront words dirs n lines
@@ -28,23 +28,23 @@ lines_front words dirs n lines later reading split = go (first_refusal dirs n) r
       ap (λ (l : List ℕ). l ++ last_line (Refused refusal)) split ∙ append_assoc lines later (last_line (Refused refusal)),
     )
 
--- want of memory may take the place of any status but that of a failed output
-starves : (words : List Word) (dirs : ℕ → Reads) (n : ℕ) (status : Status) (lines : List ℕ) → status ≢ OutFault → Before words dirs n status lines → Before words dirs n Memory lines
-starves words dirs n Ok lines ne before = (n, omega arith, before.1.1)
-starves words dirs n Usage lines ne before = (0, omega arith, before.1)
-starves words dirs n (Refused refusal) lines ne before = (n, omega arith, before.1.1)
-starves words dirs n (HostFault i) lines ne before = (i.0, omega (arith, before.1.0), before.1.1)
-starves words dirs n Memory lines ne before = before
-starves words dirs n OutFault lines ne before = absurd (ne refl)
+-- want of memory may take the place of any status but those of a failed output and of bad words
+starves : (words : List Word) (dirs : ℕ → Reads) (n : ℕ) (status : Status) (lines : List ℕ) → status ≢ OutFault → status ≢ Usage → Before words dirs n status lines → Before words dirs n Memory lines
+starves words dirs n Ok lines ne read before = (before.0, (n, omega arith, before.1.1))
+starves words dirs n Usage lines ne read before = absurd (read refl)
+starves words dirs n (Refused refusal) lines ne read before = (before.0, (n, omega arith, before.1.1))
+starves words dirs n (HostFault i) lines ne read before = (before.0, (i.0, omega (arith, before.1.0), before.1.1))
+starves words dirs n Memory lines ne read before = before
+starves words dirs n OutFault lines ne read before = absurd (ne refl)
 
 last_before : (words : List Word) (dirs : ℕ → Reads) (n : ℕ) (status last : Status) (lines : List ℕ) → status ≢ OutFault → IsLast status last → Before words dirs n status lines → Before words dirs n last lines
 last_before words dirs n status last lines ne is before = ⊎_elim
     (λ same. subst (λ (s : Status). Before words dirs n s lines) (sym same) before)
-    (λ memory. subst (λ (s : Status). Before words dirs n s lines) (sym memory) (starves words dirs n status lines ne before))
+    (λ memory. subst (λ (s : Status). Before words dirs n s lines) (sym memory.0) (starves words dirs n status lines ne memory.1 before))
     is
 
 last_is_meant : (status last : Status) → status ≢ OutFault → IsLast status last → last ≢ OutFault
-last_is_meant status last ne is out = ⊎_elim (λ same. ne (sym same ∙ out)) (λ memory. let no : Memory ≡ OutFault = sym memory ∙ out in cc) is
+last_is_meant status last ne is out = ⊎_elim (λ same. ne (sym same ∙ out)) (λ memory. let no : Memory ≡ OutFault = sym memory.0 ∙ out in cc) is
 
 -- what was said in all, where the run was closed by a last line
 closes_says : {told : Type 0} (words : List Word) (a b c : State) (status result : Status) → status ≢ OutFault → (lines : List ℕ) → b.now.said ≡ a.now.said ++ lines → Before words a.reads a.count status lines
@@ -116,7 +116,7 @@ closes_caused {told} a b c status result ne cause closes = ⊎_elim
     subst (λ (s : Status). IsCausedBy told a c s) (sym ends.status)
     (⊎_elim
     (λ same. subst (λ (s : Status). IsCausedBy told a c s) (sym same) (caused_then a b c status ne cause ends.answered))
-    (λ memory. subst (λ (s : Status). IsCausedBy told a c s) (sym memory) (ends.answered.out_faults ∙ out_same told a b status ne cause))
+    (λ memory. subst (λ (s : Status). IsCausedBy told a c s) (sym memory.0) (ends.answered.out_faults ∙ out_same told a b status ne cause))
     closes.1))
     (λ (fails : FailsOver told b c closes.0 result).
     subst (λ (s : Status). IsCausedBy told a c s) (sym fails.status) (fails.counted ∙ ap next_count (out_same told a b status ne cause)))
@@ -133,7 +133,7 @@ ends_caused told a b c OutFault result cause ends =
 
 closes_usage : {told : Type 0} (b c : State) (status result : Status) → Closes told b c status result → result ≡ Usage → status ≡ Usage
 closes_usage {told} b c status result closes is = ⊎_elim
-    (λ (ends : EndsBy told b c closes.0 result). ⊎_elim (λ same. sym same ∙ sym ends.status ∙ is) (λ memory. let no : Memory ≡ Usage = sym memory ∙ sym ends.status ∙ is in cc) closes.1)
+    (λ (ends : EndsBy told b c closes.0 result). ⊎_elim (λ same. sym same ∙ sym ends.status ∙ is) (λ memory. let no : Memory ≡ Usage = sym memory.0 ∙ sym ends.status ∙ is in cc) closes.1)
     (λ (fails : FailsOver told b c closes.0 result). let no : OutFault ≡ Usage = sym fails.status ∙ is in cc)
     closes.2
 
@@ -150,3 +150,37 @@ ends_usage told b c OutFault result ends is = sym ends.0 ∙ is
 pub usage_ends : (told : Type 0) (b c : State) (status result : Status) → status ≡ Usage → Ends told b c status result → (result ≡ Usage) ⊎ (result ≡ OutFault)
 usage_ends told b c status result is ends =
     ⊎_elim (λ (e : EndsBy told b c Usage result). inl e.status) (λ (f : FailsOver told b c Usage result). inr f.status) (subst (λ (s : Status). Ends told b c s result) is ends)
+
+-- whether the output failed, and whether anything was said then
+
+whole_is_quiet : (told : Type 0) (a c : State) (status : Status) → OutWhole told a c → IsQuiet told a c status
+whole_is_quiet told a c Ok whole = whole
+whole_is_quiet told a c Usage whole = whole
+whole_is_quiet told a c (Refused refusal) whole = whole
+whole_is_quiet told a c (HostFault i) whole = whole
+whole_is_quiet told a c Memory whole = whole
+whole_is_quiet told a c OutFault whole = silent_whole whole
+
+closes_quiet : (told : Type 0) (a b c : State) (status result : Status) → OutWhole told a b → Closes told b c status result → IsQuiet told a c result
+closes_quiet told a b c status result whole closes = ⊎_elim
+    (λ (ends : EndsBy told b c closes.0 result). whole_is_quiet told a c result (out_whole_trans whole ends.answered.out))
+    (λ (fails : FailsOver told b c closes.0 result). subst (λ (s : Status). IsQuiet told a c s) (sym fails.status) (silent_after whole fails.silent))
+    closes.2
+
+pub ends_quiet : (told : Type 0) (a b c : State) (status result : Status) → IsQuiet told a b status → Ends told b c status result → IsQuiet told a c result
+ends_quiet told a b c Ok result quiet ends = closes_quiet told a b c Ok result quiet ends
+ends_quiet told a b c Usage result quiet ends = closes_quiet told a b c Usage result quiet (Usage, inl refl, ends)
+ends_quiet told a b c (Refused refusal) result quiet ends = closes_quiet told a b c (Refused refusal) result quiet ends
+ends_quiet told a b c (HostFault i) result quiet ends = closes_quiet told a b c (HostFault i) result quiet ends
+ends_quiet told a b c Memory result quiet ends = closes_quiet told a b c Memory result quiet ends
+ends_quiet told a b c OutFault result quiet ends =
+    subst (λ (s : Status). IsQuiet told a c s) (sym ends.0) (subst (λ (x : State). SilentAfter told a x) (sym ends.1) quiet)
+
+-- a quiet run behind one whose calls were all answered
+pub answered_quiet : (told : Type 0) (a b c : State) (status : Status) → AllAnswered told a b → IsQuiet told b c status → IsQuiet told a c status
+answered_quiet told a b c Ok answered quiet = out_whole_trans answered.out quiet
+answered_quiet told a b c Usage answered quiet = out_whole_trans answered.out quiet
+answered_quiet told a b c (Refused refusal) answered quiet = out_whole_trans answered.out quiet
+answered_quiet told a b c (HostFault i) answered quiet = out_whole_trans answered.out quiet
+answered_quiet told a b c Memory answered quiet = out_whole_trans answered.out quiet
+answered_quiet told a b c OutFault answered quiet = silent_after answered.out quiet

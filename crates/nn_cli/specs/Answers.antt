@@ -1,9 +1,10 @@
--- What a run of the program says in all, and which counts rise, by the status that it ends with.
+-- What a run of the program says in all, and which counts rise, by the status that it ends with: the lines before the last
+-- one (`Before`), these with the last line (`Means`), and what of that was said where the output failed (`Says`).
 use Rattle.std.specs.Prelude.{◌≡◌, ◌≢◌, ◌⊎◌, ◌<◌, ◌≤◌, ℕ, List, [], ◌++◌, take, Some, None}
 use Rattle.nn_host.specs.Disk.{Reads}
 use Rattle.nn_host.specs.Moments.{State, faults_at}
 use Rattle.nn_host.specs.Calls.{next_count}
-use Rattle.nn_host.specs.Runs.{AllAnswered}
+use Rattle.nn_host.specs.Runs.{AllAnswered, OutWhole, SilentAfter}
 use Rattle.nn_cli.specs.declared.status.Status.{Status}
 use Rattle.nn_cli.specs.declared.status.Status.TheVariants.{Ok, Usage, Refused, HostFault, Memory, OutFault}
 use Rattle.nn_cli.specs.Words.{Word, AskStates, HaveNoReading}
@@ -23,10 +24,9 @@ StatesBefore dirs n Memory lines = (k : ℕ) × (k ≤ n) × (lines ≡ state_li
 StatesBefore dirs n OutFault lines = (later : List ℕ) × (state_lines dirs n ≡ lines ++ later)
 StatesBefore dirs n Usage lines = ⊥
 
--- the same for any words: those without a reading are answered by the last line alone, and want of memory is free
+-- the same for any words: those without a reading are answered by the last line alone
 abbrev pub Before : List Word → (ℕ → Reads) → ℕ → Status → List ℕ → Type 0
 Before words dirs n Usage lines = HaveNoReading words × (lines ≡ [])
-Before words dirs n Memory lines = StatesBefore dirs n Memory lines
 Before words dirs n status lines = HaveReading words × StatesBefore dirs n status lines
 
 -- all that a run with these words means to say when it ends by this status
@@ -47,6 +47,11 @@ IsCausedBy told old new OutFault = new.now.out_faults ≡ next_count old.now.out
 IsCausedBy told old new Memory = new.now.out_faults ≡ old.now.out_faults
 IsCausedBy told old new status = AllAnswered told old new
 
+-- the output failed only where the run ended by that, and then nothing more was said
+abbrev pub IsQuiet : Type 0 → State → State → Status → Type 0
+IsQuiet told old new OutFault = SilentAfter told old new
+IsQuiet told old new status = OutWhole told old new
+
 -- directory i was looked at, but its line wasn't said whole
 abbrev pub Falls : Type 0 → ℕ → State → State → Status → Type 0
 Falls told i old new (HostFault j) = (j.0 ≡ i) × (faults_at new i ≡ next_count (faults_at old i)) × (new.now.out_faults ≡ old.now.out_faults) × (told → new.now.said ≡ old.now.said)
@@ -56,9 +61,9 @@ Falls told i old new Ok = ⊥
 Falls told i old new Usage = ⊥
 Falls told i old new (Refused refusal) = ⊥
 
--- the last line is that of the status, or that of want of memory in its place
+-- the last line is that of the status, or that of want of memory in its place; bad words take no memory
 abbrev pub IsLast : Status → Status → Type 0
-IsLast status last = (last ≡ status) ⊎ (last ≡ Memory)
+IsLast status last = (last ≡ status) ⊎ ((last ≡ Memory) × (status ≢ Usage))
 
 -- the last line was said, and the run ends by its status
 pub record EndsBy (told : Type 0) (old new : State) (last result : Status) : Type 0 where
@@ -70,13 +75,14 @@ pub record EndsBy (told : Type 0) (old new : State) (last result : Status) : Typ
 pub record FailsOver (told : Type 0) (old new : State) (last result : Status) : Type 0 where
   pub status : result ≡ OutFault
   pub counted : new.now.out_faults ≡ next_count old.now.out_faults
+  pub silent : SilentAfter told old new
   pub said : told → (n : ℕ) × (new.now.said ≡ old.now.said ++ take n (last_line last))
 
 -- the run was closed by a last line, said or not
 abbrev pub Closes : Type 0 → State → State → Status → Status → Type 0
 Closes told old new status result = (last : Status) × IsLast status last × (EndsBy told old new last result ⊎ FailsOver told old new last result)
 
--- the same for any status: after the output failed, nothing more is said, and bad words take no memory
+-- the same for any status: after the output failed, nothing more is said
 abbrev pub Ends : Type 0 → State → State → Status → Status → Type 0
 Ends told old new OutFault result = (result ≡ OutFault) × (new ≡ old)
 Ends told old new Usage result = EndsBy told old new Usage result ⊎ FailsOver told old new Usage result

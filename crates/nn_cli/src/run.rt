@@ -1,11 +1,11 @@
 // A whole run of the program, but for the real folders and the real output.
-ghost use Rattle.std.specs.Prelude.{◌≡◌, ◌⊎◌, ◌++◌, List, length, IfOk};
+ghost use Rattle.std.specs.Prelude.{◌≡◌, ◌≢◌, ◌⊎◌, ◌++◌, List, length, IfOk};
 ghost use Rattle.std.specs.String.{string_bytes};
 ghost use Rattle.std.specs.Fmt.{decimal};
 ghost use Rattle.nn_host.specs.Runs.{Untouched};
 ghost use Rattle.nn_cli.specs.Words.{Word as W, texts, AskStates, HaveNoReading};
 ghost use Rattle.nn_cli.specs.Lines.{last_line};
-ghost use Rattle.nn_cli.specs.Answers.{Before, Says, IsCausedBy, EndsBy, FailsOver, Closes, Ends};
+ghost use Rattle.nn_cli.specs.Answers.{Before, Says, IsCausedBy, IsQuiet, EndsBy, FailsOver, Closes, Ends};
 
 use crate::{Status, say_states, states_asked};
 use nn_base::{DirNo, NoMemory};
@@ -21,6 +21,7 @@ pub fn namenode<H: Host>(alloc: Global, words: &[String], host: &mut H) -> Statu
     ensures usage { HaveNoReading (texts words.now) → (result ≡ Status.Usage) ⊎ (result ≡ Status.OutFault) }
     ensures said { H.told → (text : _) × ((H.state host.new).now.said ≡ (H.state host.old).now.said ++ text) × Says (texts words.now) (H.state host.old).reads (H.state host.old).count result text }
     ensures kept { Untouched H.told (H.state host.old) (H.state host.new) }
+    ensures quiet { IsQuiet H.told (H.state host.old) (H.state host.new) result }
     ensures cause { IsCausedBy H.told (H.state host.old) (H.state host.new) result }
 {
     let status = answer(alloc, words, host);
@@ -33,6 +34,7 @@ fn answer<H: Host>(alloc: Global, words: &[String], host: &mut H) -> Status
     ensures usage { HaveNoReading (texts words.now) → result ≡ Status.Usage }
     ensures said { H.told → (lines : _) × ((H.state host.new).now.said ≡ (H.state host.old).now.said ++ lines) × Before (texts words.now) (H.state host.old).reads (H.state host.old).count result lines }
     ensures kept { Untouched H.told (H.state host.old) (H.state host.new) }
+    ensures quiet { IsQuiet H.told (H.state host.old) (H.state host.new) result }
     ensures cause { IsCausedBy H.told (H.state host.old) (H.state host.new) result }
 {
     match states_asked(words) {
@@ -63,7 +65,8 @@ fn fault_line(alloc: Global, i: DirNo) -> Result<String, NoMemory>
 }
 
 fn say_made<H: Host>(host: &mut H, line: Result<String, NoMemory>, status: Status) -> Status
-    requires { IfOk line (λ made. string_bytes made ≡ last_line status) }
+    requires line { IfOk line (λ made. string_bytes made ≡ last_line status) }
+    requires read { status ≢ Status.Usage }
     ensures last { Closes H.told (H.state host.old) (H.state host.new) status result }
     ensures kept { Untouched H.told (H.state host.old) (H.state host.new) }
 {

@@ -4,7 +4,7 @@ ghost use Rattle.std.specs.String.{string_bytes};
 ghost use Rattle.nn_host.specs.Runs.{AllAnswered, Untouched};
 ghost use Rattle.nn_cli.specs.Lines.{state_line};
 ghost use Rattle.nn_cli.specs.States.{found, refusal_of as refusal_at, or_else};
-ghost use Rattle.nn_cli.specs.Answers.{StatesBefore, IsCausedBy, Falls};
+ghost use Rattle.nn_cli.specs.Answers.{StatesBefore, IsCausedBy, IsQuiet, Falls};
 
 use crate::{Refusal, Status};
 use nn_base::{DirNo, NoMemory};
@@ -19,6 +19,7 @@ pub fn say_states<H: Host>(alloc: Global, host: &mut H) -> Status
     ensures said { H.told → (lines : _) × ((H.state host.new).now.said ≡ (H.state host.old).now.said ++ lines) × StatesBefore (H.state host.old).reads (H.state host.old).count result lines }
     ensures read { result ≢ Status.Usage }
     ensures kept { Untouched H.told (H.state host.old) (H.state host.new) }
+    ensures quiet { IsQuiet H.told (H.state host.old) (H.state host.new) result }
     ensures cause { IsCausedBy H.told (H.state host.old) (H.state host.new) result }
 {
     let mut first = None;
@@ -45,6 +46,7 @@ fn say_state<H: Host>(
     ensures value { H.told → IfOk result (λ it. it ≡ found (H.state host.old).reads i.0) }
     ensures said { H.told → OnOk result ((H.state host.new).now.said ≡ (H.state host.old).now.said ++ state_line i.0 (found (H.state host.old).reads i.0)) }
     ensures kept { Untouched H.told (H.state host.old) (H.state host.new) }
+    ensures quiet { IfErr result (λ status. IsQuiet H.told (H.state host.old) (H.state host.new) status) }
     ensures cause { IfErr result (λ status. Falls H.told i.0 (H.state host.old) (H.state host.new) status) }
 {
     let seven = match look(host, i) {

@@ -188,14 +188,15 @@ fn each_mix_of_folders_has_the_state_of_the_table(rt: HostRuntime) -> Result<(),
 #[test]
 fn a_failed_call_ends_the_run_where_it_came(rt: HostRuntime) -> Result<(), Fail> {
     // The seven questions and the line of the first directory are the calls 0 to 7.
-    let failing: [(u64, &str, u8); 4] = [
-        (3, "fault 0\n", 3),
-        (10, "0 NOT_FORMATTED\nfault 1\n", 3),
-        (7, "0 NOT_FO", 8),
-        (16, "0 NOT_FORMATTED\n1 NON_EXISTENT\nrefused m", 8),
+    let failing: [(&str, u64, &str, u8); 5] = [
+        (". .", 3, "fault 0\n", 3),
+        (". .", 10, "0 NOT_FORMATTED\nfault 1\n", 3),
+        (". -", 10, "0 NOT_FORMATTED\nfault 1\n", 3),
+        (". .", 7, "0 NOT_FO", 8),
+        (". -", 16, "0 NOT_FORMATTED\n1 NON_EXISTENT\nrefused m", 8),
     ];
-    for (call, said, code) in failing {
-        let mut host = host_of(&rt, rt.alloc(), ". -", &[call])?;
+    for (dirs, call, said, code) in failing {
+        let mut host = host_of(&rt, rt.alloc(), dirs, &[call])?;
         let status = run(&rt, rt.alloc(), "state A B", &mut host)?;
         assert_eq!(rt; status.code(), code, "{call}");
         assert!(rt; has_said(&host, said), "{call}");

@@ -1,11 +1,11 @@
 -- Runs that change no directory, from call to call.
 use Rattle.std.proofs.lemmas.List.{append-nil}
-use Rattle.std.proofs.Common.{◌≡◌, ◌⊎◌, inl, inr, ⊎_elim, ℕ, ◌≤◌, List, ◌++◌, take, Bool, true, false, if◌then◌else◌, Result, Ok, Err, OnOk, OnErr, IsErr, is_ok, refl, sym, ◌∙◌, ap, subst, arith}
+use Rattle.std.proofs.Common.{◌≡◌, ◌⊎◌, inl, inr, ⊎_elim, ℕ, ◌≤◌, List, ◌++◌, take, Bool, true, false, if◌then◌else◌, Result, Ok, Err, IsErr, is_ok, refl, sym, ◌∙◌, ap, subst, arith}
 use Rattle.std.proofs.lemmas.Bool.Decides.{eqb_tells}
 use Rattle.nn_host.specs.Disk.{Reads, Look}
 use Rattle.nn_host.specs.Moments.{Dir, Moment, State, Say, moment, disk_at, faults_at, Stops, Since}
-use Rattle.nn_host.specs.Calls.{Frame, IsCounted, Effect, Called, Said, Cut, Unsaid, Spoke, next_count}
-use Rattle.nn_host.specs.Runs.{Throughout, Undisturbed, Untouched, Looked, AllAnswered}
+use Rattle.nn_host.specs.Calls.{Frame, IsCounted, Effect, Called, Spoke, next_count}
+use Rattle.nn_host.specs.Runs.{Throughout, Undisturbed, Untouched, OutWhole, SilentAfter, Looked, AllAnswered}
 use Rattle.nn_host.proofs.MomentsLemmas.{since_recorded, since_unrecorded, since_called, moment_recorded, moment_unrecorded, moment_called, frame_trans}
 
 -- runs of any fact
@@ -45,6 +45,22 @@ untouched_trans {a = a} {b = b} p q = record {
   each = λ tells t m le since. ⊎_elim (λ w. p.each tells t m le w) (λ w. inr (undisturbed_trans a b m (p.ends tells) w)) (q.each tells t m (omega (arith, le, p.later tells)) since);
 }
 
+-- runs in which the output doesn't fail
+
+pub out_whole_refl : {told : Type 0} {a : State} → OutWhole told a a
+out_whole_refl = throughout_refl (λ tells. refl)
+
+pub out_whole_trans : {told : Type 0} {a b c : State} → OutWhole told a b → OutWhole told b c → OutWhole told a c
+out_whole_trans {told} p q = throughout_trans p (throughout_weaker q (λ tells m same. same ∙ p.ends tells))
+
+pub silent_whole : {told : Type 0} {a b : State} → OutWhole told a b → SilentAfter told a b
+silent_whole p = throughout_weaker p (λ tells m same. inl same)
+
+pub silent_after : {told : Type 0} {a b c : State} → OutWhole told a b → SilentAfter told b c → SilentAfter told a c
+silent_after p q = throughout_trans
+    (throughout_weaker p (λ tells m same. inl same))
+    (throughout_weaker q (λ tells m either. ⊎_elim (λ same. inl (same ∙ p.ends tells)) (λ said. inr said) either))
+
 same_disk : {T E : Type 0} (i : ℕ) (old new : State) (result : Result T E) → Effect i Look old new result → disk_at new i ≡ disk_at old i
 same_disk i old new (Ok v) effect = effect.ok.disk
 same_disk i old new (Err e) effect = ⊎_elim (λ broken. ⊎_elim (λ same. same) (λ same. same) broken.disk) (λ unbegun. unbegun.disk) effect.err
@@ -71,6 +87,15 @@ looked_once {T} {E} {told} {i} {old} {new} {result} called = record {
         (λ w. ⊎_elim (λ stopped. absurd stopped.1) (λ now. inr (subst (λ (x : Moment). Undisturbed old x) (sym now) (at_end tells))) w)
         (since_called i Look old new result (called.effect tells) t m le since);
   };
+  out = record {
+    count = called.frame.count;
+    later = λ tells. moment_called i Look old new result (called.effect tells);
+    ends = λ tells. called.frame.now.out_faults;
+    each = λ tells t m le since. ⊎_elim
+        (λ w. inl w)
+        (λ w. ⊎_elim (λ stopped. absurd stopped.1) (λ now. inr (ap (λ (x : Moment). x.out_faults) now ∙ called.frame.now.out_faults)) w)
+        (since_called i Look old new result (called.effect tells) t m le since);
+  };
   reads = λ tells. same_reads result (called.effect tells);
 }
   where
@@ -91,6 +116,7 @@ looked_then {told} {i} {a} {b} {c} {answered} p q = record {
   frame = frame_trans i a b c p.frame q.frame;
   counted = q.counted ∙ (λ k. if answered then p.counted k else next_count (p.counted k));
   untouched = untouched_trans p.untouched q.untouched;
+  out = out_whole_trans p.out q.out;
   reads = λ tells is. q.reads tells is ∙ p.reads tells refl;
 }
 
@@ -100,33 +126,45 @@ looked_failed (Ok v) p failed = cc
 looked_failed (Err e) p failed = p
 
 -- something was said
-pub untouched_spoke : {T E told : Type 0} {bytes : List ℕ} {old new : State} {result : Result T E} → Spoke told bytes old new result → Untouched told old new
-untouched_spoke {T} {E} {told} {bytes} {old} {new} {result} spoke = record {
+
+later_spoke : {T E told : Type 0} {bytes : List ℕ} {old new : State} (result : Result T E) → Spoke told bytes old new result → told → moment old ≤ moment new
+later_spoke {bytes = bytes} {old = old} {new = new} (Ok v) spoke tells = moment_recorded old new (Say bytes) (spoke.ok tells).recorded
+later_spoke {bytes = bytes} {old = old} {new = new} (Err e) spoke tells =
+    ⊎_elim (λ cut. moment_recorded old new (Say bytes) cut.recorded) (λ unsaid. moment_unrecorded old new unsaid.unrecorded) (spoke.err tells)
+
+since_spoke : {T E told : Type 0} {bytes : List ℕ} {old new : State} (result : Result T E) → Spoke told bytes old new result → told → (t : ℕ) (m : Moment) → t ≤ moment old
+    → Since new t m → Since old t m ⊎ (Stops (Say bytes) old.now m ⊎ (m ≡ new.now))
+since_spoke {bytes = bytes} {old = old} {new = new} (Ok v) spoke tells t m le since = since_recorded old new (Say bytes) (spoke.ok tells).recorded t m le since
+since_spoke {bytes = bytes} {old = old} {new = new} (Err e) spoke tells t m le since = ⊎_elim
+    (λ cut. since_recorded old new (Say bytes) cut.recorded t m le since)
+    (λ unsaid. ⊎_elim (λ w. inl w) (λ now. inr (inr now)) (since_unrecorded old new unsaid.unrecorded t m since))
+    (spoke.err tells)
+
+-- each moment of it has Q, if those inside it and its end have
+spoke_throughout : {T E told : Type 0} {bytes : List ℕ} {old new : State} {result : Result T E} (Q : Moment → Type 0) → Spoke told bytes old new result
+    → ((m : Moment) → Stops (Say bytes) old.now m → Q m) → (told → Q new.now) → Throughout told old new Q
+spoke_throughout {result = result} Q spoke inside end = record {
   count = spoke.count;
-  later = λ tells. later result (spoke.ok tells) (spoke.err tells);
-  ends = λ tells. at_end;
+  later = λ tells. later_spoke result spoke tells;
+  ends = end;
   each = λ tells t m le since. ⊎_elim
       (λ w. inl w)
-      (λ w. ⊎_elim (λ stopped. inr (same m stopped.0)) (λ now. inr (subst (λ (x : Moment). Undisturbed old x) (sym now) at_end)) w)
-      (moments result (spoke.ok tells) (spoke.err tells) t m le since);
+      (λ w. inr (⊎_elim (λ stopped. inside m stopped) (λ now. subst Q (sym now) (end tells)) w))
+      (since_spoke result spoke tells t m le since);
 }
+
+pub untouched_spoke : {T E told : Type 0} {bytes : List ℕ} {old new : State} {result : Result T E} → Spoke told bytes old new result → Untouched told old new
+untouched_spoke {old = old} {new = new} spoke = spoke_throughout (Undisturbed old) spoke (λ m stopped. same m stopped.0) (λ tells. same new.now spoke.dirs)
   where
     same : (m : Moment) → m.dirs ≡ old.now.dirs → Undisturbed old m
     same m dirs = record { disks = λ j. ap (λ (f : ℕ → Dir). (f j).disk) dirs }
 
-    at_end : Undisturbed old new.now
-    at_end = same new.now spoke.dirs
+pub silent_spoke : {T E told : Type 0} {bytes : List ℕ} {old new : State} {result : Result T E} → Spoke told bytes old new result → SilentAfter told old new
+silent_spoke {old = old} {new = new} spoke =
+    spoke_throughout (λ m. (m.out_faults ≡ old.now.out_faults) ⊎ (m.said ≡ new.now.said)) spoke (λ m stopped. inl stopped.1) (λ tells. inr refl)
 
-    later : (r : Result T E) → OnOk r (Said bytes old new) → OnErr r (Cut bytes old new ⊎ Unsaid old new) → moment old ≤ moment new
-    later (Ok v) ok err = moment_recorded old new (Say bytes) ok.recorded
-    later (Err e) ok err = ⊎_elim (λ cut. moment_recorded old new (Say bytes) cut.recorded) (λ unsaid. moment_unrecorded old new unsaid.unrecorded) err
-
-    moments : (r : Result T E) → OnOk r (Said bytes old new) → OnErr r (Cut bytes old new ⊎ Unsaid old new) → (t : ℕ) (m : Moment) → t ≤ moment old → Since new t m → Since old t m ⊎ (Stops (Say bytes) old.now m ⊎ (m ≡ new.now))
-    moments (Ok v) ok err t m le s = since_recorded old new (Say bytes) ok.recorded t m le s
-    moments (Err e) ok err t m le s = ⊎_elim
-        (λ cut. since_recorded old new (Say bytes) cut.recorded t m le s)
-        (λ unsaid. ⊎_elim (λ w. inl w) (λ now. inr (inr now)) (since_unrecorded old new unsaid.unrecorded t m s))
-        err
+pub out_spoke : {T E told : Type 0} {bytes : List ℕ} {old new : State} {v : T} → Spoke {T = T} {E = E} told bytes old new (Ok v) → OutWhole told old new
+out_spoke {old = old} spoke = spoke_throughout (λ m. m.out_faults ≡ old.now.out_faults) spoke (λ m stopped. stopped.1) (λ tells. spoke.counted_ok)
 
 -- an output that failed took a front of the bytes
 pub spoke_front : {T E told : Type 0} {bytes : List ℕ} {old new : State} {e : E} → Spoke {T = T} {E = E} told bytes old new (Err e) → told → (n : ℕ) × (new.now.said ≡ old.now.said ++ take n bytes)
@@ -135,11 +173,12 @@ spoke_front {old = old} spoke tells = ⊎_elim (λ cut. cut.said) (λ unsaid. (0
 -- runs in which each call was answered
 
 pub all_answered_refl : {told : Type 0} {a : State} → AllAnswered told a a
-all_answered_refl = record { untouched = untouched_refl; faults = λ j. refl; out_faults = refl; reads = λ tells j. refl }
+all_answered_refl = record { untouched = untouched_refl; out = out_whole_refl; faults = λ j. refl; out_faults = refl; reads = λ tells j. refl }
 
 pub all_answered_trans : {told : Type 0} {a b c : State} → AllAnswered told a b → AllAnswered told b c → AllAnswered told a c
 all_answered_trans p q = record {
   untouched = untouched_trans p.untouched q.untouched;
+  out = out_whole_trans p.out q.out;
   faults = λ j. q.faults j ∙ p.faults j;
   out_faults = q.out_faults ∙ p.out_faults;
   reads = λ tells j. q.reads tells j ∙ p.reads tells j;
@@ -148,6 +187,7 @@ all_answered_trans p q = record {
 pub all_answered_looked : {told : Type 0} {i : ℕ} {a b : State} → Looked told i a b true → AllAnswered told a b
 all_answered_looked {told} {i} {a} {b} p = record {
   untouched = p.untouched;
+  out = p.out;
   faults = λ j. at j;
   out_faults = p.frame.now.out_faults;
   reads = λ tells j. reads_at tells j;
@@ -168,6 +208,7 @@ all_answered_looked {told} {i} {a} {b} p = record {
 pub all_answered_spoke : {T E told : Type 0} {bytes : List ℕ} {a b : State} {v : T} → Spoke {T = T} {E = E} told bytes a b (Ok v) → AllAnswered told a b
 all_answered_spoke {T} {E} {told} {bytes} {a} {b} {v} spoke = record {
   untouched = untouched_spoke spoke;
+  out = out_spoke spoke;
   faults = λ j. ap (λ (f : ℕ → Dir). (f j).faults) spoke.dirs;
   out_faults = spoke.counted_ok;
   reads = λ tells j. ap (λ (f : ℕ → Reads). f j) spoke.reads;

@@ -37,16 +37,26 @@ pub record Undisturbed (old : State) (m : Moment) : Type 0 where
 abbrev pub Untouched : Type 0 → State → State → Type 0
 Untouched told old new = Throughout told old new (Undisturbed old)
 
--- from old to new this directory alone was looked at, and nothing was said; it was answered, or its last call failed
+-- from old to new the output didn't fail
+abbrev pub OutWhole : Type 0 → State → State → Type 0
+OutWhole told old new = Throughout told old new (λ m. m.out_faults ≡ old.now.out_faults)
+
+-- from old to new nothing was said any more once the output had failed
+abbrev pub SilentAfter : Type 0 → State → State → Type 0
+SilentAfter told old new = Throughout told old new (λ m. (m.out_faults ≡ old.now.out_faults) ⊎ (m.said ≡ new.now.said))
+
+-- from old to new this directory alone was looked at, and nothing was said; all calls were answered, or the last one failed
 pub record Looked (told : Type 0) (i : ℕ) (old new : State) (answered : Bool) : Type 0 where
   pub frame : Frame i old new
   pub counted : faults_at new i ≡ (if answered then faults_at old i else next_count (faults_at old i))
   pub untouched : Untouched told old new
+  pub out : OutWhole told old new
   pub reads : told → answered ≡ true → new.reads i ≡ old.reads i
 
 -- from old to new each call was answered, and no directory was changed
 pub record AllAnswered (told : Type 0) (old new : State) : Type 0 where
   pub untouched : Untouched told old new
+  pub out : OutWhole told old new
   pub faults : (j : ℕ) → faults_at new j ≡ faults_at old j
   pub out_faults : new.now.out_faults ≡ old.now.out_faults
   pub reads : told → (j : ℕ) → new.reads j ≡ old.reads j

@@ -1,6 +1,6 @@
 use Rattle.nn_host.proofs.RunsLemmas.{untouched_trans}
 use Rattle.nn_cli.specs.Words.{texts}
-use Rattle.nn_cli.proofs.AnswersLemmas.{ends_says, ends_caused, ends_usage, usage_ends}
+use Rattle.nn_cli.proofs.AnswersLemmas.{ends_says, ends_caused, ends_quiet, ends_usage, usage_ends}
 use Rattle.nn_cli.proofs.run.namenode.Goals as goal
 
 pub returns : goal.returns
@@ -16,5 +16,6 @@ returns g c =
           let before = c.answer-status.ensures.said tells in
           ends_says (texts c.args.words.now) entry middle exit status c.end.result before.0 before.1 before.2 c.end.ensures.last tells;
       kept = untouched_trans c.answer-status.ensures.kept c.end.ensures.kept;
+      quiet = ends_quiet g.H.Host.told entry middle exit status c.end.result c.answer-status.ensures.quiet c.end.ensures.last;
       cause = ends_caused g.H.Host.told entry middle exit status c.end.result c.answer-status.ensures.cause c.end.ensures.last;
     }

@@ -1,5 +1,5 @@
 use Rattle.std.proofs.Common.{inl, inr, refl, ◌∙◌, ap, ◌++◌, take, List, ℕ}
-use Rattle.nn_host.proofs.RunsLemmas.{untouched_spoke, spoke_front, all_answered_spoke}
+use Rattle.nn_host.proofs.RunsLemmas.{untouched_spoke, silent_spoke, spoke_front, all_answered_spoke}
 use Rattle.nn_cli.proofs.run.say_last.Goals as goal
 
 pub returns-in-Ok-clause-last : goal.returns-in-Ok-clause-last
@@ -20,6 +20,7 @@ returns-in-Err-clause-last g c =
     inr (record {
       status = refl;
       counted = spoke.counted_err;
+      silent = silent_spoke spoke;
       said = λ tells.
           let front = spoke_front spoke tells in
           (front.0, front.1 ∙ ap (λ (line : List ℕ). (g.H.Host.state c.args.host.now).now.said ++ take front.0 line) c.requires);

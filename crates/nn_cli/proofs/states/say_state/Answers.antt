@@ -1,6 +1,6 @@
 use Rattle.std.proofs.Common.{◌∙◌, ap, ◌++◌, take}
 use Rattle.nn_host.specs.Calls.{next_count}
-use Rattle.nn_host.proofs.RunsLemmas.{untouched_trans, untouched_spoke, spoke_front, all_answered_trans, all_answered_looked, all_answered_spoke}
+use Rattle.nn_host.proofs.RunsLemmas.{untouched_trans, untouched_spoke, silent_after, silent_spoke, spoke_front, all_answered_trans, all_answered_looked, all_answered_spoke}
 use Rattle.nn_state.specs.Table.{table_of}
 use Rattle.nn_cli.specs.Lines.{state_line}
 use Rattle.nn_cli.proofs.states.say_state.Goals as goal
@@ -13,6 +13,9 @@ returns-in-Ok-say-clause-kept g c = untouched_trans c.in-Ok.ensures.kept.untouch
 
 pub returns-clause-kept : goal.returns-clause-kept
 returns-clause-kept g c = untouched_trans c.in-Ok.ensures.kept.untouched (untouched_spoke c.in-Err-say.ensures)
+
+pub returns-clause-quiet : goal.returns-clause-quiet
+returns-clause-quiet g c = silent_after c.in-Ok.ensures.kept.out (silent_spoke c.in-Err-say.ensures)
 
 pub returns-clause-cause : goal.returns-clause-cause
 returns-clause-cause g c =

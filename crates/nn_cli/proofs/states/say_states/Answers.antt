@@ -1,4 +1,5 @@
 use Rattle.std.proofs.Common.{arith}
+use Rattle.nn_cli.proofs.AnswersLemmas.{answered_quiet}
 use Rattle.nn_cli.proofs.StatesLemmas.{so_far_one_more, so_far_falls, falls_read}
 use Rattle.nn_cli.proofs.states.say_states.Goals as goal
 
@@ -7,6 +8,9 @@ returns-in-Err-clause-said g c = (so_far_falls (g.H.Host.state c.say_state.new.h
 
 pub returns-in-Err-clause-read : goal.returns-in-Err-clause-read
 returns-in-Err-clause-read g c = falls_read g.H.Host.told c.loop-i.i (g.H.Host.state c.loop-i.host) (g.H.Host.state c.say_state.new.host) c.in-Err.status c.in-Err.ensures.cause
+
+pub returns-in-Err-clause-quiet : goal.returns-in-Err-clause-quiet
+returns-in-Err-clause-quiet g c = answered_quiet g.H.Host.told (g.H.Host.state c.args.host.now) (g.H.Host.state c.loop-i.host) (g.H.Host.state c.say_state.new.host) c.in-Err.status c.loop-i.invariant.answered c.in-Err.ensures.quiet
 
 pub returns-in-Err-clause-cause : goal.returns-in-Err-clause-cause
 returns-in-Err-clause-cause g c = (so_far_falls (g.H.Host.state c.say_state.new.host) c.in-Err.status c.loop-i.invariant (omega (arith, c.count-i-end.ensures.count)) c.in-Err.ensures.cause).1
