@@ -1,12 +1,11 @@
 -- Where the parts of an MD5 file stand.
-use Rattle.std.proofs.Common.{◌≡◌, ◌≢◌, ℕ, ◌+◌, ◌*◌, ◌%◌, ◌^◌, ◌<◌, List, [], ◌∷◌, ◌++◌, length, take, drop, Option, Some, None, Result, Ok, sym, ap, ◌∙◌, refl, arith, append_assoc, length-append}
+use Rattle.std.proofs.Common.{◌≡◌, ℕ, ◌%◌, List, ◌++◌, length, take, drop, Ok, sym, ap, ◌∙◌, arith, append_assoc, length-append}
 use Rattle.std.specs.Prelude.{codes}
-use Rattle.std.proofs.lemmas.List.{take_at, drop_at, drop-drop}
-use Rattle.hex.specs.Hex.{encode_lower, lower_digits, IsBytes, decode_of, decode_sized}
+use Rattle.std.proofs.lemmas.List.{take_at, drop_at}
+use Rattle.hex.specs.Hex.{encode_lower, lower_digits, IsBytes, decode_sized}
 use Rattle.hex.proofs.HexLemmas.{length-encode_with, decode_of-encode_lower, decode_of-even}
 use Rattle.nn_base.specs.FileText.{id_text}
-use Rattle.nn_base.specs.Decimal.{number_in}
-use Rattle.nn_base.proofs.FileTextLemmas.{length-id_text, number_in-id_text}
+use Rattle.nn_base.proofs.FileTextLemmas.{length-id_text}
 use Rattle.nn_marks.specs.Digest.{md5_text_of}
 
 pub length-encode_lower : (digest : List ℕ) → length digest ≡ 16 → length (encode_lower digest) ≡ 32

@@ -1,15 +1,11 @@
 -- A walk over the lines finds the first fault, and marks the keys that were given.
-use Rattle.std.proofs.Common.{◌≡◌, ◌≢◌, ◌⊎◌, ℕ, ◌+◌, ◌<◌, ◌≤◌, Bool, true, false, ◌||◌, List, [], ◌∷◌, ◌++◌, length, take, drop, map, set, get_or, Option, Some, None, sym, ap, ◌∙◌, subst, refl, inl, inr, arith, cond}
+use Rattle.std.proofs.Common.{◌≡◌, ℕ, ◌+◌, ◌<◌, true, false, List, [], ◌∷◌, ◌++◌, length, take, drop, map, get_or, Option, Some, None, sym, ap, ◌∙◌, refl, arith}
 use Rattle.std.specs.List.{enumerate_from}
-use Rattle.std.specs.Option.{is_some, option_or, option_map}
-use Rattle.std.specs.Prelude.{nat_eq}
-use Rattle.std.proofs.lemmas.List.{take_more, drop_more, get_or-set_same, get_or-set_other, length-drop, length-take-le}
+use Rattle.std.proofs.lemmas.List.{take_more, drop_more, length-drop, length-take-le}
 use Rattle.nn_marks.specs.declared.key.Key.{Key}
-use Rattle.nn_marks.specs.declared.key.Key.TheVariants.{NamespaceId, ClusterId, CTime, StorageType, BlockpoolId, LayoutVersion}
 use Rattle.nn_marks.specs.declared.fault.VersionFault.{VersionFault}
 use Rattle.nn_marks.specs.declared.fault.VersionFault.TheVariants.{BadLine, Twice}
-use Rattle.nn_marks.specs.Given.{place_of, Marks}
-use Rattle.nn_marks.specs.Version.{Line, keys, value_in, value_of, key_in, first_of}
+use Rattle.nn_marks.specs.Version.{Line, first_of}
 use Rattle.nn_marks.specs.VersionFaults.{line_fault, line_faults, is_bad, twice_key}
 
 -- the first fault from line n on

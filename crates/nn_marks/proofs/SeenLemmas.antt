@@ -1,5 +1,5 @@
 -- Digits with a newline behind them, and without.
-use Rattle.std.proofs.Common.{◌≡◌, ◌≢◌, ◌⊎◌, ℕ, ◌+◌, ◌^◌, ◌<◌, ◌≤◌, true, false, List, [], ◌∷◌, ◌++◌, length, take, drop, set, Option, Some, None, sym, ap, ◌∙◌, refl, inl, inr, arith, lit<, length-append}
+use Rattle.std.proofs.Common.{◌≡◌, ◌≢◌, ◌⊎◌, ℕ, ◌+◌, ◌^◌, ◌<◌, ◌≤◌, true, List, ◌++◌, length, take, drop, set, Option, Some, None, sym, ap, ◌∙◌, refl, inl, inr, arith, lit<, length-append}
 use Rattle.std.specs.Prelude.{codes, IfSome}
 use Rattle.std.specs.Fmt.{decimal}
 use Rattle.std.specs.List.{list_all}
@@ -8,7 +8,7 @@ use Rattle.std.proofs.lemmas.List.{append_cancel_right, take_more_set, take_at, 
 use Rattle.std.proofs.lemmas.List.Folds.{list_all-append}
 use Rattle.std.proofs.lemmas.Fmt.{digits_decimal, digits_value-decimal, length-decimal-le, decimal_nonempty}
 use Rattle.nn_base.specs.Decimal.{number_in}
-use Rattle.nn_base.proofs.DecimalLemmas.{Writes, numerals, and_parts, writes_from_number_in, number_in_writes}
+use Rattle.nn_base.proofs.DecimalLemmas.{numerals, and_parts, writes_from_number_in, number_in_writes}
 use Rattle.nn_marks.specs.Seen.{IsSeenText, seen_text_of}
 
 pub number_in-decimal : (n : ℕ) → n < 2 ^ 63 → number_in (decimal n) ≡ Some n

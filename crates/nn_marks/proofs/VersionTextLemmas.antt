@@ -1,6 +1,6 @@
 -- What is written of a Version reads back as it.
-use Rattle.std.proofs.Common.{◌≡◌, ◌≢◌, ◌⊎◌, ℕ, zero, suc, ◌+◌, ◌*◌, ◌-◌, ◌<◌, ◌≤◌, ◌^◌, Bool, true, false, not, ◌&&◌, ◌==◌, List, [], ◌∷◌, ◌++◌, length, take, drop, map, get_or, Option, Some, None, ℤ, pos, negsuc, sym, ap, ◌∙◌, subst, refl, inl, inr, arith, cond, lit<, lit≤, append_assoc, append-nil, length-append, leb-true, le-leb, lt-ltb, le-ltb}
-use Rattle.std.specs.Prelude.{codes, nat_le, nat_lt, neg_ℤ, ◌<ℤ◌, ◌≤ℤ◌, IsSomeAnd}
+use Rattle.std.proofs.Common.{◌≡◌, ℕ, suc, ◌+◌, ◌*◌, ◌-◌, ◌<◌, ◌≤◌, ◌^◌, Bool, true, false, not, ◌&&◌, ◌==◌, List, [], ◌∷◌, ◌++◌, length, drop, map, get_or, Option, None, ℤ, pos, negsuc, sym, ap, ◌∙◌, subst, refl, arith, lit≤, append_assoc, append-nil, length-append, leb-true, le-leb, le-ltb}
+use Rattle.std.specs.Prelude.{codes, nat_le, neg_ℤ, ◌<ℤ◌, ◌≤ℤ◌}
 use Rattle.std.specs.List.{All, list_all, flat_map}
 use Rattle.std.specs.Char.{is_ascii_digit}
 use Rattle.std.specs.Fmt.{decimal, signed_decimal}
@@ -12,7 +12,7 @@ use Rattle.std.proofs.lemmas.Fmt.{digits_decimal}
 use Rattle.std.proofs.lemmas.Option.{cond_some}
 use Rattle.std.proofs.lemmas.Bool.Decides.{nat_tests}
 use Rattle.std.proofs.lemmas.Int.{ints}
-use Rattle.nn_base.specs.Decimal.{is_number, number_in}
+use Rattle.nn_base.specs.Decimal.{is_number}
 use Rattle.nn_base.specs.Words.{is_word, is_word_byte}
 use Rattle.nn_base.proofs.DecimalLemmas.{numerals, and_parts}
 use Rattle.nn_marks.specs.declared.key.Key.{Key}
@@ -20,7 +20,7 @@ use Rattle.nn_marks.specs.declared.key.Key.TheVariants.{NamespaceId, ClusterId, 
 use Rattle.nn_marks.specs.declared.fault.VersionFault.{VersionFault}
 use Rattle.nn_marks.specs.declared.fault.VersionFault.TheVariants.{TooLong, NotText}
 use Rattle.nn_marks.specs.declared.version.Version.{Version}
-use Rattle.nn_marks.specs.Version.{Line, keys, front_of, value_in, value_of, key_in, first_of}
+use Rattle.nn_marks.specs.Version.{Line, keys, front_of, first_of}
 use Rattle.nn_marks.specs.VersionFaults.{fault_of, when, is_text_byte, is_positive, is_value, key_fault, line_faults}
 use Rattle.nn_marks.specs.VersionText.{Says, IsVersionText, value_text, line_text, version_text_of}
 use Rattle.nn_marks.proofs.SeenLemmas.{number_in-decimal, length-decimal_id}
@@ -190,6 +190,7 @@ no_first a b c rest p q r s = (λ i. first_of (p i ∷ q i ∷ r i ∷ rest)) �
 
 sound : (bytes : List ℕ) → length bytes ≤ 65536 → list_all is_text_byte bytes ≡ true → first_of (line_faults (lines bytes)) ≡ None
     → first_of (map (key_fault (lines bytes)) keys) ≡ None → fault_of bytes ≡ None
+unfolding fault_of
 sound bytes short text lines_fine keys_fine =
     no_first _ _ _ (map (key_fault (lines bytes)) keys) (ap (λ b. when b TooLong) (le-ltb 65536 (length bytes) short)) (ap (λ b. when (not b) NotText) text) lines_fine keys_fine
 

@@ -1,6 +1,6 @@
 -- VERSION, the file that says which cluster and which layout a folder belongs to: the values that its lines give the keys.
-use Rattle.std.specs.Prelude.{ℕ, ◌+◌, Bool, true, not, ◌&&◌, ◌==◌, List, [], ◌∷◌, ◌++◌, length, drop, map, codes, nat_eq, nat_le, Option, Some, None, is_some, if◌then◌else◌}
-use Rattle.std.specs.List.{list_any, starts_with}
+use Rattle.std.specs.Prelude.{ℕ, Bool, true, ◌==◌, List, [], ◌∷◌, ◌++◌, length, drop, map, codes, nat_eq, Option, Some, None, is_some, if◌then◌else◌}
+use Rattle.std.specs.List.{starts_with}
 use Rattle.nn_marks.specs.declared.key.Key.{Key}
 use Rattle.nn_marks.specs.declared.key.Key.TheVariants.{NamespaceId, ClusterId, CTime, StorageType, BlockpoolId, LayoutVersion}
 

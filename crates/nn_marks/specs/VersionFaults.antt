@@ -1,5 +1,5 @@
 -- What can be wrong with a VERSION file, in the order in which it is told: the first is the answer.
-use Rattle.std.specs.Prelude.{ℕ, ◌+◌, Bool, false, not, ◌&&◌, ◌||◌, ◌==◌, List, [], ◌∷◌, ◌++◌, length, take, map, codes, nat_eq, nat_le, nat_lt, Option, Some, None, is_some, if◌then◌else◌}
+use Rattle.std.specs.Prelude.{ℕ, ◌+◌, Bool, false, not, ◌&&◌, ◌||◌, ◌==◌, List, [], ◌∷◌, length, take, map, codes, nat_le, nat_lt, Option, Some, None, is_some, if◌then◌else◌}
 use Rattle.std.specs.List.{list_any, list_all, enumerate_from}
 use Rattle.std.specs.Option.{option_and_then, option_map}
 use Rattle.std.specs.Str.{bytes_eq}
@@ -11,7 +11,7 @@ use Rattle.nn_marks.specs.declared.key.Key.{Key}
 use Rattle.nn_marks.specs.declared.key.Key.TheVariants.{NamespaceId, ClusterId, CTime, StorageType, BlockpoolId, LayoutVersion}
 use Rattle.nn_marks.specs.declared.fault.VersionFault.{VersionFault}
 use Rattle.nn_marks.specs.declared.fault.VersionFault.TheVariants.{TooLong, NotText, BadLine, Twice, Missing, BadNumber, BadWord}
-use Rattle.nn_marks.specs.Version.{Line, keys, value_in, value_of, key_in, is_skipped, first_of}
+use Rattle.nn_marks.specs.Version.{Line, keys, value_of, key_in, is_skipped, first_of}
 
 -- a fault where the test says so
 abbrev pub when : Bool → VersionFault → Option VersionFault
@@ -69,7 +69,7 @@ abbrev pub line_faults : List Line → List (Option VersionFault)
 line_faults lines = map (λ place. line_fault (take place.0 lines) place.1) (enumerate_from 0 lines)
 
 -- the first fault of a file
-abbrev pub fault_of : List ℕ → Option VersionFault
+unfoldable pub fault_of : List ℕ → Option VersionFault
 fault_of bytes = first_of (
     when (nat_lt 65536 (length bytes)) TooLong
     ∷ when (not (list_all is_text_byte bytes)) NotText

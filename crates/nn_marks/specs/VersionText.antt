@@ -1,5 +1,5 @@
 -- The texts of a Version: those that say it, and the one that is written.
-use Rattle.std.specs.Prelude.{◌≡◌, ℕ, List, [], ◌++◌, drop, codes, pos, neg_ℤ, Some, None, IsSomeAnd}
+use Rattle.std.specs.Prelude.{◌≡◌, ℕ, List, ◌++◌, drop, codes, pos, neg_ℤ, Some, None, IsSomeAnd}
 use Rattle.std.specs.List.{flat_map}
 use Rattle.std.specs.Fmt.{decimal, signed_decimal}
 use Rattle.std.specs.Str.Lines.{lines}

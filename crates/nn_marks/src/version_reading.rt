@@ -21,6 +21,7 @@ pub const MAX_VERSION: usize = 65_536;
 /// What a VERSION file says. Its lines may stand in any order and end with a carriage return before the newline; the last newline
 /// may be missing; empty lines, lines that begin with `#` and unknown keys are skipped. The fault is the first that there is, as
 /// `VersionFault` orders them. It needs no memory, so the fault is never `Memory`.
+#[tactic(auto, unfolding(crate::specs::VersionFaults::fault_of))]
 pub fn version_read(bytes: &[u8]) -> Result<Version, VersionFault>
     ensures ok { IfOk result (IsVersionText bytes.now) }
     ensures err { IfErr result (λ fault. fault_of bytes.now ≡ Some fault) }

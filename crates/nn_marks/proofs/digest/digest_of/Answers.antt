@@ -1,5 +1,5 @@
 -- Digits that a digest is written with decode to it.
-use Rattle.std.proofs.Common.{◌≡◌, Some, ap, ◌∙◌}
+use Rattle.std.proofs.Common.{Some, ap}
 use Rattle.std.proofs.lemmas.Result.{MatchResult-at_ok}
 use Rattle.nn_marks.proofs.DigestLemmas.{decodes}
 use Rattle.nn_marks.proofs.digest.digest_of.Goals as goal

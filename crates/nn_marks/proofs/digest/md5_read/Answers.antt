@@ -1,5 +1,5 @@
 -- A text that is written so has its parts in their places, and is what they are written as.
-use Rattle.std.proofs.Common.{◌≡◌, ℕ, Some, take, drop, ap, sym, ◌∙◌}
+use Rattle.std.proofs.Common.{◌≡◌, Some, take, drop, ap, sym, ◌∙◌}
 use Rattle.std.proofs.lemmas.Option.{none-some, same_Some}
 use Rattle.std.proofs.lemmas.Bool.{false≢true}
 use Rattle.std.proofs.lemmas.Slice.Eq.{bytes_eq-Decides}

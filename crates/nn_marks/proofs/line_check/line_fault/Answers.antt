@@ -1,8 +1,7 @@
 -- Each turn looks at the line of its number, with the lines before it marked.
-use Rattle.std.proofs.Common.{◌≡◌, ◌+◌, sym, ◌∙◌, subst, arith, refl, List, ◌∷◌, take, drop}
+use Rattle.std.proofs.Common.{sym, ◌∙◌, subst, arith, refl, take}
 use Rattle.std.specs.Str.Lines.{lines}
 use Rattle.nn_marks.specs.Given.{Marks}
-use Rattle.nn_marks.specs.Version.{Line}
 use Rattle.nn_marks.proofs.KeysLemmas.{marks_none}
 use Rattle.nn_marks.proofs.LinesLemmas.{no_lines}
 use Rattle.nn_marks.proofs.LineFaults.{faults_from_none, faults_pass, faults_stop, faults_end, line_at, bad_line, twice_line, fine_line}

@@ -1,4 +1,4 @@
-use Rattle.std.proofs.Common.{◌≡◌, ◌+◌, ◌∷◌, [], sym, ap, ◌∙◌, refl, length, take, drop, rules, arith}
+use Rattle.std.proofs.Common.{◌+◌, ◌∷◌, sym, ◌∙◌, length, arith}
 use Rattle.std.specs.Str.Lines.{lines}
 use Rattle.std.proofs.lemmas.List.{take_rest, take_all, drop_all}
 use Rattle.nn_marks.proofs.LinesLemmas.{lines_at_newline, lines_without_newline}
