@@ -39,13 +39,13 @@ pub enum StorageState {
     CompleteRollback,
     /// A rollback didn't put the saved state back: what was to be replaced is to be put back.
     RecoverRollback,
-    /// An import wrote its image: what it replaced is to be kept as `previous.checkpoint`.
+    /// A checkpoint saved in place was written: what it replaced is to be kept as `previous.checkpoint`.
     CompleteCheckpoint,
-    /// An import didn't write its image: what it was to replace is to be put back.
+    /// A checkpoint saved in place was not written: what it was to replace is to be put back.
     RecoverCheckpoint,
 }
 
-/// Why no state fits the folders: no step of any operation leaves them so.
+/// Why no state fits the folders: no operation is meant to leave them so.
 #[derive(Clone, Copy, Debug, PartialEq, Eq)]
 pub enum Why {
     /// `previous` without a `current/VERSION`.
