@@ -1,1 +1,4 @@
+pub mod DecimalLemmas
+pub mod FileTextLemmas
 pub mod NamesLemmas
+pub mod PaddedLemmas

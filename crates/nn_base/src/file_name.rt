@@ -1,4 +1,7 @@
 // The files of a subfolder.
+mod parse;
+mod text;
+
 use crate::{FirstTxid, Span, Txid};
 
 /// A file of a subfolder, by what its name says. The forms are those of Hadoop's `NNStorage.NameNodeFile`.

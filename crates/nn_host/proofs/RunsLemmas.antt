@@ -1,10 +1,11 @@
 -- Runs that change no directory, from call to call.
-use Rattle.std.proofs.Common.{◌≡◌, ◌⊎◌, inl, inr, ⊎_elim, ℕ, ◌≤◌, List, Result, Ok, Err, OnOk, OnErr, refl, sym, ◌∙◌, ap, subst, arith}
+use Rattle.std.proofs.lemmas.List.{append-nil}
+use Rattle.std.proofs.Common.{◌≡◌, ◌⊎◌, inl, inr, ⊎_elim, ℕ, ◌≤◌, List, ◌++◌, take, Bool, true, false, if◌then◌else◌, Result, Ok, Err, OnOk, OnErr, IsErr, is_ok, refl, sym, ◌∙◌, ap, subst, arith}
 use Rattle.std.proofs.lemmas.Bool.Decides.{eqb_tells}
-use Rattle.nn_host.specs.Disk.{Look}
+use Rattle.nn_host.specs.Disk.{Reads, Look}
 use Rattle.nn_host.specs.Moments.{Dir, Moment, State, Say, moment, disk_at, faults_at, Stops, Since}
 use Rattle.nn_host.specs.Calls.{Frame, IsCounted, Effect, Called, Said, Cut, Unsaid, Spoke, next_count}
-use Rattle.nn_host.specs.Runs.{Throughout, Undisturbed, Untouched, Looked}
+use Rattle.nn_host.specs.Runs.{Throughout, Undisturbed, Untouched, Looked, AllAnswered}
 use Rattle.nn_host.proofs.MomentsLemmas.{since_recorded, since_unrecorded, since_called, moment_recorded, moment_unrecorded, moment_called, frame_trans}
 
 -- runs of any fact
@@ -57,10 +58,10 @@ one_look i old new frame here = record { disks = λ j. at j }
       | inr differs ↦ ap (λ (d : Dir). d.disk) (frame.now.dirs j differs.1)
     ]
 
-pub looked_once : {T E told : Type 0} {i : ℕ} {old new : State} {result : Result T E} → Called told i Look old new result → Looked told i old new result
+pub looked_once : {T E told : Type 0} {i : ℕ} {old new : State} {result : Result T E} → Called told i Look old new result → Looked told i old new (is_ok result)
 looked_once {T} {E} {told} {i} {old} {new} {result} called = record {
   frame = called.frame;
-  counted = called.counted;
+  counted = counted result called.counted;
   untouched = record {
     count = called.frame.count;
     later = λ tells. moment_called i Look old new result (called.effect tells);
@@ -76,30 +77,27 @@ looked_once {T} {E} {told} {i} {old} {new} {result} called = record {
     at_end : told → Undisturbed old new.now
     at_end tells = one_look i old new called.frame (same_disk i old new result (called.effect tells))
 
-    same_reads : {T E : Type 0} (r : Result T E) → Effect i Look old new r → OnOk r (new.reads i ≡ old.reads i)
-    same_reads (Ok v) effect = effect.ok.reads
-    same_reads (Err e) effect = tt
+    counted : (r : Result T E) → IsCounted i old new r → faults_at new i ≡ (if is_ok r then faults_at old i else next_count (faults_at old i))
+    counted (Ok v) is = is.ok
+    counted (Err e) is = is.err
 
--- a look that returned, and then further ones
-pub looked_then : {T U E : Type 0} {told : Type 0} {i : ℕ} {a b c : State} {v : U} {result : Result T E} → Looked {T = U} {E = E} told i a b (Ok v) → Looked told i b c result → Looked told i a c result
-looked_then {T} {U} {E} {told} {i} {a} {b} {c} {v} {result} p q = record {
+    same_reads : (r : Result T E) → Effect i Look old new r → is_ok r ≡ true → new.reads i ≡ old.reads i
+    same_reads (Ok v) effect answered = effect.ok.reads
+    same_reads (Err e) effect answered = cc
+
+-- a look that was answered, and then further ones
+pub looked_then : {told : Type 0} {i : ℕ} {a b c : State} {answered : Bool} → Looked told i a b true → Looked told i b c answered → Looked told i a c answered
+looked_then {told} {i} {a} {b} {c} {answered} p q = record {
   frame = frame_trans i a b c p.frame q.frame;
-  counted = record { ok = ok result q.counted; err = err result q.counted };
+  counted = q.counted ∙ (λ k. if answered then p.counted k else next_count (p.counted k));
   untouched = untouched_trans p.untouched q.untouched;
-  reads = λ tells. reads result (p.reads tells) (q.reads tells);
+  reads = λ tells is. q.reads tells is ∙ p.reads tells refl;
 }
-  where
-    ok : (r : Result T E) → IsCounted i b c r → OnOk r (faults_at c i ≡ faults_at a i)
-    ok (Ok w) counted = counted.ok ∙ p.counted.ok
-    ok (Err e) counted = tt
 
-    err : (r : Result T E) → IsCounted i b c r → OnErr r (faults_at c i ≡ next_count (faults_at a i))
-    err (Ok w) counted = tt
-    err (Err e) counted = counted.err ∙ ap next_count p.counted.ok
-
-    reads : (r : Result T E) → b.reads i ≡ a.reads i → OnOk r (c.reads i ≡ b.reads i) → OnOk r (c.reads i ≡ a.reads i)
-    reads (Ok w) first second = second ∙ first
-    reads (Err e) first second = tt
+-- a function that hands a failed look on has failed
+pub looked_failed : {T E told : Type 0} {i : ℕ} {a b : State} (result : Result T E) → Looked told i a b false → IsErr result → Looked told i a b (is_ok result)
+looked_failed (Ok v) p failed = cc
+looked_failed (Err e) p failed = p
 
 -- something was said
 pub untouched_spoke : {T E told : Type 0} {bytes : List ℕ} {old new : State} {result : Result T E} → Spoke told bytes old new result → Untouched told old new
@@ -129,3 +127,48 @@ untouched_spoke {T} {E} {told} {bytes} {old} {new} {result} spoke = record {
         (λ cut. since_recorded old new (Say bytes) cut.recorded t m le s)
         (λ unsaid. ⊎_elim (λ w. inl w) (λ now. inr (inr now)) (since_unrecorded old new unsaid.unrecorded t m s))
         err
+
+-- an output that failed took a front of the bytes
+pub spoke_front : {T E told : Type 0} {bytes : List ℕ} {old new : State} {e : E} → Spoke {T = T} {E = E} told bytes old new (Err e) → told → (n : ℕ) × (new.now.said ≡ old.now.said ++ take n bytes)
+spoke_front {old = old} spoke tells = ⊎_elim (λ cut. cut.said) (λ unsaid. (0, unsaid.said ∙ sym (append-nil old.now.said))) (spoke.err tells)
+
+-- runs in which each call was answered
+
+pub all_answered_refl : {told : Type 0} {a : State} → AllAnswered told a a
+all_answered_refl = record { untouched = untouched_refl; faults = λ j. refl; out_faults = refl; reads = λ tells j. refl }
+
+pub all_answered_trans : {told : Type 0} {a b c : State} → AllAnswered told a b → AllAnswered told b c → AllAnswered told a c
+all_answered_trans p q = record {
+  untouched = untouched_trans p.untouched q.untouched;
+  faults = λ j. q.faults j ∙ p.faults j;
+  out_faults = q.out_faults ∙ p.out_faults;
+  reads = λ tells j. q.reads tells j ∙ p.reads tells j;
+}
+
+pub all_answered_looked : {told : Type 0} {i : ℕ} {a b : State} → Looked told i a b true → AllAnswered told a b
+all_answered_looked {told} {i} {a} {b} p = record {
+  untouched = p.untouched;
+  faults = λ j. at j;
+  out_faults = p.frame.now.out_faults;
+  reads = λ tells j. reads_at tells j;
+}
+  where
+    at : (j : ℕ) → faults_at b j ≡ faults_at a j
+    at j = elim (eqb_tells j i) [
+      | inl is ↦ subst (λ (k : ℕ). faults_at b k ≡ faults_at a k) (sym is.1) p.counted
+      | inr differs ↦ ap (λ (d : Dir). d.faults) (p.frame.now.dirs j differs.1)
+    ]
+
+    reads_at : told → (j : ℕ) → b.reads j ≡ a.reads j
+    reads_at tells j = elim (eqb_tells j i) [
+      | inl is ↦ subst (λ (k : ℕ). b.reads k ≡ a.reads k) (sym is.1) (p.reads tells refl)
+      | inr differs ↦ p.frame.reads j differs.1
+    ]
+
+pub all_answered_spoke : {T E told : Type 0} {bytes : List ℕ} {a b : State} {v : T} → Spoke {T = T} {E = E} told bytes a b (Ok v) → AllAnswered told a b
+all_answered_spoke {T} {E} {told} {bytes} {a} {b} {v} spoke = record {
+  untouched = untouched_spoke spoke;
+  faults = λ j. ap (λ (f : ℕ → Dir). (f j).faults) spoke.dirs;
+  out_faults = spoke.counted_ok;
+  reads = λ tells j. ap (λ (f : ℕ → Reads). f j) spoke.reads;
+}

@@ -1,8 +1,8 @@
 -- What holds over a run of calls: which directories it touched, and what each moment of it has.
-use Rattle.std.specs.Prelude.{◌≡◌, ◌⊎◌, ◌≤◌, ℕ, Result, OnOk}
+use Rattle.std.specs.Prelude.{◌≡◌, ◌⊎◌, ◌≤◌, ℕ, Bool, true, if◌then◌else◌}
 use Rattle.nn_host.specs.Disk.{Disk}
 use Rattle.nn_host.specs.Moments.{Dir, Moment, State, Since, SameBut, moment, disk_at, faults_at}
-use Rattle.nn_host.specs.Calls.{Frame, IsCounted}
+use Rattle.nn_host.specs.Calls.{Frame, next_count}
 
 -- nothing has changed since but this directory, whose disk has P and whose count of faults hasn't fallen
 pub record AtWork (i : ℕ) (old : State) (m : Moment) (P : Disk → Type 0) : Type 0 where
@@ -37,9 +37,16 @@ pub record Undisturbed (old : State) (m : Moment) : Type 0 where
 abbrev pub Untouched : Type 0 → State → State → Type 0
 Untouched told old new = Throughout told old new (Undisturbed old)
 
--- from old to new this directory alone was looked at, and nothing was said
-pub record Looked {T E : Type 0} (told : Type 0) (i : ℕ) (old new : State) (result : Result T E) : Type 0 where
+-- from old to new this directory alone was looked at, and nothing was said; it was answered, or its last call failed
+pub record Looked (told : Type 0) (i : ℕ) (old new : State) (answered : Bool) : Type 0 where
   pub frame : Frame i old new
-  pub counted : IsCounted i old new result
+  pub counted : faults_at new i ≡ (if answered then faults_at old i else next_count (faults_at old i))
   pub untouched : Untouched told old new
-  pub reads : told → OnOk result (new.reads i ≡ old.reads i)
+  pub reads : told → answered ≡ true → new.reads i ≡ old.reads i
+
+-- from old to new each call was answered, and no directory was changed
+pub record AllAnswered (told : Type 0) (old new : State) : Type 0 where
+  pub untouched : Untouched told old new
+  pub faults : (j : ℕ) → faults_at new j ≡ faults_at old j
+  pub out_faults : new.now.out_faults ≡ old.now.out_faults
+  pub reads : told → (j : ℕ) → new.reads j ≡ old.reads j

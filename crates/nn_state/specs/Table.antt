@@ -1,5 +1,5 @@
 -- The seven truth values of a directory's contents, and the table of storage states.
-use Rattle.std.specs.Prelude.{ℕ, ◌+◌, Bool, true, false, not, ◌&&◌, nat_lt, ◌==◌, List, [], ◌∷◌, Result, Ok, Err, is_some, if◌then◌else◌}
+use Rattle.std.specs.Prelude.{ℕ, ◌+◌, Bool, not, ◌&&◌, nat_lt, ◌==◌, List, [], ◌∷◌, Result, Ok, Err, is_some, if◌then◌else◌}
 use Rattle.nn_base.specs.declared.sub.Sub.TheVariants.{Current, Previous, PreviousTmp, RemovedTmp, FinalizedTmp, LastCheckpointTmp}
 use Rattle.nn_base.specs.declared.file_name.FileName.TheVariants.{Version}
 use Rattle.nn_host.specs.Disk.{Reads}
@@ -54,5 +54,5 @@ abbrev pub first_row : List Row → Result StorageState Why
 first_row [] = Err SeveralTmp
 first_row (row ∷ later) = if row.0 then row.1 else first_row later
 
-abbrev pub table_of : Seven → Result StorageState Why
+unfoldable pub table_of : Seven → Result StorageState Why
 table_of s = first_row (rows s)

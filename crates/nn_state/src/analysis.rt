@@ -5,6 +5,7 @@ ghost use Rattle.nn_state.specs.Table.{table_of, tmp_count as count_of};
 use crate::{Seven, StorageState, Why};
 
 /// The storage state of these folders, or why none fits: the table of Hadoop's `StorageDirectory.analyzeStorage`.
+#[tactic(auto, unfolding(crate::specs::Table::table_of))]
 pub fn table(seven: Seven) -> Result<StorageState, Why>
     ensures { result ≡ table_of seven }
 {

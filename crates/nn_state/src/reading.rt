@@ -1,5 +1,5 @@
 // Reading the seven truth values of a directory.
-ghost use Rattle.std.specs.Prelude.{◌≡◌, ◌<◌, IfOk};
+ghost use Rattle.std.specs.Prelude.{◌≡◌, ◌<◌, IfOk, is_ok};
 ghost use Rattle.nn_host.specs.Runs.{Looked};
 ghost use Rattle.nn_state.specs.Table.{seven_of};
 
@@ -13,44 +13,48 @@ use nn_host::{Failed, Host};
 pub fn look<H: Host>(host: &mut H, i: DirNo) -> Result<Seven, Failed>
     requires { i.0 < (H.state host.old).count }
     ensures ok { H.told → IfOk result (λ seven. seven ≡ seven_of ((H.state host.old).reads i.0)) }
-    ensures kept { Looked H.told i.0 (H.state host.old) (H.state host.new) result }
+    ensures kept { Looked H.told i.0 (H.state host.old) (H.state host.new) (is_ok result) }
 {
     let root = host.has_root(i)?;
     let current = host.has_file(i, Sub::Current, FileName::Version)?;
     let previous = host.has_sub(i, Sub::Previous)?;
-    let tmp = look_tmp(host, i)?;
+    let under_way = look_under_way(host, i)?;
     Ok(Seven {
         root,
         current,
         previous,
-        previous_tmp: tmp.previous_tmp,
-        removed_tmp: tmp.removed_tmp,
-        finalized_tmp: tmp.finalized_tmp,
-        last_checkpoint_tmp: tmp.last_checkpoint_tmp,
+        previous_tmp: under_way.upgrade,
+        removed_tmp: under_way.rollback,
+        finalized_tmp: under_way.finalize,
+        last_checkpoint_tmp: under_way.import,
     })
 }
 
-// Which of the four temporary folders are there.
+// What is under way, by the temporary folder of each operation.
 #[derive(Clone, Copy)]
-struct Tmp {
-    previous_tmp: bool,
-    removed_tmp: bool,
-    finalized_tmp: bool,
-    last_checkpoint_tmp: bool,
+struct UnderWay {
+    upgrade: bool,
+    rollback: bool,
+    finalize: bool,
+    import: bool,
 }
 
-fn look_tmp<H: Host>(host: &mut H, i: DirNo) -> Result<Tmp, Failed>
+fn look_under_way<H: Host>(host: &mut H, i: DirNo) -> Result<UnderWay, Failed>
     requires { i.0 < (H.state host.old).count }
-    ensures kept { Looked H.told i.0 (H.state host.old) (H.state host.new) result }
+    ensures upgrade { H.told → IfOk result (λ it. it.upgrade ≡ (seven_of ((H.state host.old).reads i.0)).previous_tmp) }
+    ensures rollback { H.told → IfOk result (λ it. it.rollback ≡ (seven_of ((H.state host.old).reads i.0)).removed_tmp) }
+    ensures finalize { H.told → IfOk result (λ it. it.finalize ≡ (seven_of ((H.state host.old).reads i.0)).finalized_tmp) }
+    ensures import { H.told → IfOk result (λ it. it.import ≡ (seven_of ((H.state host.old).reads i.0)).last_checkpoint_tmp) }
+    ensures kept { Looked H.told i.0 (H.state host.old) (H.state host.new) (is_ok result) }
 {
-    let previous_tmp = host.has_sub(i, Sub::PreviousTmp)?;
-    let removed_tmp = host.has_sub(i, Sub::RemovedTmp)?;
-    let finalized_tmp = host.has_sub(i, Sub::FinalizedTmp)?;
-    let last_checkpoint_tmp = host.has_sub(i, Sub::LastCheckpointTmp)?;
-    Ok(Tmp {
-        previous_tmp,
-        removed_tmp,
-        finalized_tmp,
-        last_checkpoint_tmp,
+    let upgrade = host.has_sub(i, Sub::PreviousTmp)?;
+    let rollback = host.has_sub(i, Sub::RemovedTmp)?;
+    let finalize = host.has_sub(i, Sub::FinalizedTmp)?;
+    let import = host.has_sub(i, Sub::LastCheckpointTmp)?;
+    Ok(UnderWay {
+        upgrade,
+        rollback,
+        finalize,
+        import,
     })
 }

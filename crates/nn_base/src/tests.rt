@@ -1,0 +1,97 @@
+// Names and words with expected values that were written down by hand.
+use crate::{FileName, FirstTxid, Span, Txid, Word};
+use std::test::Fail;
+
+const LAST: u64 = 9_223_372_036_854_775_807;
+
+const NAMES: [(&str, FileName); 12] = [
+    ("VERSION", FileName::Version),
+    ("VERSION.tmp", FileName::VersionTmp),
+    ("seen_txid", FileName::Seen),
+    ("seen_txid.tmp", FileName::SeenTmp),
+    ("fsimage_0000000000000000000", FileName::Image(Txid(0))),
+    ("fsimage_9223372036854775807", FileName::Image(Txid(LAST))),
+    ("fsimage_0000000000000000012.md5", FileName::Md5(Txid(12))),
+    (
+        "fsimage_0000000000000000012.md5.tmp",
+        FileName::Md5Tmp(Txid(12)),
+    ),
+    (
+        "fsimage.ckpt_0000000000000060202",
+        FileName::Ckpt(Txid(60202)),
+    ),
+    (
+        "edits_0000000000000000001-0000000000000000002",
+        FileName::Edits(Span {
+            first: Txid(1),
+            last: Txid(2),
+        }),
+    ),
+    (
+        "edits_0000000000000000007-0000000000000000007",
+        FileName::Edits(Span {
+            first: Txid(7),
+            last: Txid(7),
+        }),
+    ),
+    (
+        "edits_inprogress_0000000000000000001",
+        FileName::InProgress(FirstTxid(Txid(1))),
+    ),
+];
+
+const OTHERS: [&str; 14] = [
+    "",
+    "version",
+    "VERSION.tmp2",
+    "seen_txid.",
+    "fsimage_",
+    "fsimage_000000000000000000",
+    "fsimage_00000000000000000000",
+    "fsimage_9223372036854775808",
+    "fsimage_000000000000000000x",
+    "fsimage_0000000000000000012.md5.tm",
+    "edits_0000000000000000005-0000000000000000003",
+    "edits_0000000000000000000-0000000000000000003",
+    "edits_0000000000000000001_0000000000000000002",
+    "edits_inprogress_0000000000000000000",
+];
+
+#[test]
+fn a_name_is_written_and_read_by_its_one_text(rt: HostRuntime) -> Result<(), Fail> {
+    for (text, name) in NAMES {
+        let mut out = Vec::new(rt.alloc());
+        name.text(&mut out)?;
+        assert!(rt; out.as_slice() == text.as_bytes(), "{text}");
+        let read = FileName::parse(text.as_bytes()).ok_or(text)?;
+        assert!(rt; read == name, "{text}");
+    }
+    for text in OTHERS {
+        assert!(rt; FileName::parse(text.as_bytes()).is_none(), "{text}");
+    }
+    Ok(())
+}
+
+#[test]
+fn a_word_has_one_to_255_bytes_that_print(rt: HostRuntime) -> Result<(), Fail> {
+    let long = [b'~'; 255];
+    for text in [
+        b"c1".as_slice(),
+        b"BP-7".as_slice(),
+        b"!".as_slice(),
+        long.as_slice(),
+    ] {
+        let word = Word::of(text).ok_or("a word")?;
+        assert!(rt; word.bytes() == text);
+    }
+    let longer = [b'a'; 256];
+    for text in [
+        b"".as_slice(),
+        b"a b".as_slice(),
+        b"\x7F".as_slice(),
+        longer.as_slice(),
+    ] {
+        assert!(rt; Word::of(text).is_none());
+    }
+    Ok(())
+}

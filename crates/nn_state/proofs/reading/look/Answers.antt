@@ -1,0 +1,48 @@
+use Rattle.std.proofs.Common.{◌∙◌, ap, refl}
+use Rattle.std.specs.Prelude.{is_some}
+use Rattle.nn_base.specs.declared.sub.Sub.TheVariants.{Current, Previous}
+use Rattle.nn_base.specs.declared.file_name.FileName.TheVariants.{Version}
+use Rattle.nn_host.specs.Disk.{Reads}
+use Rattle.nn_host.proofs.RunsLemmas.{looked_once, looked_then, looked_failed}
+use Rattle.nn_state.specs.Table.{seven_of}
+use Rattle.nn_state.specs.declared.state.Seven.{Seven}
+use Rattle.nn_state.proofs.reading.look.Goals as goal
+
+pub returns-in_err-root-clause-kept : goal.returns-in_err-root-clause-kept
+returns-in_err-root-clause-kept g c = looked_failed _ (looked_once c.in_err-root.ensures.call) c.from_residual.ensures.0
+
+pub returns-in_err-current-clause-kept : goal.returns-in_err-current-clause-kept
+returns-in_err-current-clause-kept g c =
+    let first = looked_once c.in_ok-root.ensures.call in
+    looked_failed _ (looked_then first (looked_once c.in_err-current.ensures.call)) c.from_residual-in_err-current.ensures.0
+
+pub returns-in_err-previous-clause-kept : goal.returns-in_err-previous-clause-kept
+returns-in_err-previous-clause-kept g c =
+    let second = looked_then (looked_once c.in_ok-root.ensures.call) (looked_once c.in_ok-current.ensures.call) in
+    looked_failed _ (looked_then second (looked_once c.in_err-previous.ensures.call)) c.from_residual-in_err-previous.ensures.0
+
+pub returns-in_err-under_way-clause-kept : goal.returns-in_err-under_way-clause-kept
+returns-in_err-under_way-clause-kept g c =
+    let second = looked_then (looked_once c.in_ok-root.ensures.call) (looked_once c.in_ok-current.ensures.call) in
+    let third = looked_then second (looked_once c.in_ok-previous.ensures.call) in
+    looked_failed _ (looked_then third c.in_err-under_way.ensures.kept) c.from_residual-in_err-under_way.ensures.0
+
+pub returns : goal.returns
+returns g c =
+    let first = looked_once c.in_ok-root.ensures.call in
+    let second = looked_then first (looked_once c.in_ok-current.ensures.call) in
+    let third = looked_then second (looked_once c.in_ok-previous.ensures.call) in
+    record {
+      ok = λ tells.
+          let at_third = ap seven_of (third.reads tells refl) in
+          λ k. record {
+            root = c.in_ok-root.ensures.value tells k;
+            current = (c.in_ok-current.ensures.value tells ∙ ap (λ (r : Reads). is_some (r.file Current Version)) (first.reads tells refl)) k;
+            previous = (c.in_ok-previous.ensures.value tells ∙ ap (λ (r : Reads). r.has Previous) (second.reads tells refl)) k;
+            previous_tmp = (c.in_ok-under_way.ensures.upgrade tells ∙ ap (λ (s : Seven). s.previous_tmp) at_third) k;
+            removed_tmp = (c.in_ok-under_way.ensures.rollback tells ∙ ap (λ (s : Seven). s.removed_tmp) at_third) k;
+            finalized_tmp = (c.in_ok-under_way.ensures.finalize tells ∙ ap (λ (s : Seven). s.finalized_tmp) at_third) k;
+            last_checkpoint_tmp = (c.in_ok-under_way.ensures.import tells ∙ ap (λ (s : Seven). s.last_checkpoint_tmp) at_third) k;
+          };
+      kept = looked_then third c.in_ok-under_way.ensures.kept;
+    }
