@@ -1,3 +1,6 @@
+pub mod FilesLemmas
+pub mod LeavesLemmas
+pub mod MakesLemmas
+pub mod LawfulLemmas
 pub mod MomentsLemmas
 pub mod RunsLemmas
-pub mod LeavesLemmas
