@@ -1,12 +1,12 @@
 -- After each call the disk is sound, and what reads is what a stop may leave.
-use Rattle.std.proofs.Common.{◌≡◌, ◌⊎◌, inl, inr, ⊎_elim, ℕ, List, [], ◌++◌, Option, Some, None, Result, Ok, Err, refl, sym, ◌∙◌, ap, subst, arith, append_assoc, length-append}
+use Rattle.std.proofs.Common.{◌≡◌, inl, inr, ⊎_elim, ℕ, List, [], ◌++◌, Option, Some, None, Result, Ok, Err, refl, sym, ◌∙◌, ap, subst, arith, append_assoc, length-append}
 use Rattle.std.specs.Prelude.{Bool, true, false, not, if◌then◌else◌, ◌&&◌, is_some}
 use Rattle.nn_base.specs.declared.sub.Sub.{Sub}
 use Rattle.nn_base.specs.declared.file_name.FileName.{FileName}
 use Rattle.nn_base.specs.Names.{sub_eq, file_eq}
 use Rattle.nn_base.proofs.NamesLemmas.{sub_tells, file_tells}
 use Rattle.nn_host.specs.Disk.{Disk, Reads, File, Call, Look, MakeSub, MakeFile, Append, Sync, RenameFile, RenameSub, RemoveFile, RemoveSub, Settle, Leaves, LeavesFile, IsSound, PartOf, with_file, with_sub, disk_after, reads_after, added, certain, add_pending, fresh_file}
-use Rattle.nn_host.specs.Moments.{State, disk_at, IsLawful}
+use Rattle.nn_host.specs.Moments.{State, disk_at}
 use Rattle.nn_host.specs.Calls.{Effect}
 use Rattle.nn_host.proofs.LeavesLemmas.{leaves_certain}
 use Rattle.nn_host.proofs.MakesLemmas.{Makes, now_makes}

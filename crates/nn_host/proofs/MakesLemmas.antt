@@ -3,7 +3,7 @@ use Rattle.std.proofs.Common.{◌≡◌, ◌⊎◌, inl, inr, ⊎_elim, ℕ, Ok,
 use Rattle.std.specs.Prelude.{false}
 use Rattle.nn_base.specs.declared.sub.Sub.{Sub}
 use Rattle.nn_base.proofs.NamesLemmas.{sub_tells}
-use Rattle.nn_host.specs.Disk.{Disk, Reads, Call, Look, MakeSub, MakeFile, Append, Sync, RenameFile, RenameSub, RemoveFile, RemoveSub, Settle, InFlight, Broken, PartOf, IsSound, disk_after, with_sub}
+use Rattle.nn_host.specs.Disk.{Disk, Reads, Call, Look, MakeSub, MakeFile, Append, Sync, RenameFile, RenameSub, RemoveFile, RemoveSub, Settle, InFlight, Broken, PartOf, disk_after, with_sub}
 use Rattle.nn_host.specs.Moments.{State, disk_at}
 use Rattle.nn_host.specs.Calls.{Effect}
 
