@@ -22,7 +22,9 @@ pub enum ReadAll {
 }
 
 impl From<Failed> for ReadAll {
-    ghost from_gives = { λ _ fault. fault ≡ ReadAll.Failed };
+    ghost use Rattle.nn_small.specs.declared.read.ReadAll.TheVariants.{Failed};
+
+    ghost from_gives = { λ _ fault. fault ≡ Failed };
 
     fn from(_: Failed) -> ReadAll {
         ReadAll::Failed
@@ -30,7 +32,9 @@ impl From<Failed> for ReadAll {
 }
 
 impl From<AllocError> for ReadAll {
-    ghost from_gives = { λ _ fault. fault ≡ ReadAll.Memory };
+    ghost use Rattle.nn_small.specs.declared.read.ReadAll.TheVariants.{Memory};
+
+    ghost from_gives = { λ _ fault. fault ≡ Memory };
 
     fn from(_: AllocError) -> ReadAll {
         ReadAll::Memory
