@@ -1,16 +1,15 @@
 -- Reading a file whole.
-use Rattle.std.proofs.Common.{◌≡◌, ◌⊎◌, ⊎_elim, ℕ, ◌≤◌, ◌<◌, List, ◌++◌, length, take, Bool, true, false, if◌then◌else◌, Option, Some, None, Result, Ok, Err, refl, sym, ◌∙◌, ap, subst, arith}
-use Rattle.std.specs.Prelude.{is_some, IsErrAnd}
-use Rattle.std.proofs.lemmas.Bool.{lt-leb, le-leb}
+use Rattle.std.proofs.Common.{◌≡◌, ◌⊎◌, ⊎_elim, ℕ, ◌≤◌, List, ◌++◌, length, take, Bool, true, false, Option, Result, Ok, Err, refl, sym, ◌∙◌, ap, subst, arith}
+use Rattle.std.specs.Prelude.{IsErrAnd}
 use Rattle.std.proofs.lemmas.List.{take_all, take_at}
 use Rattle.nn_host.specs.Listing.{bytes_of, IsRead}
 use Rattle.nn_host.specs.Moments.{State}
 use Rattle.nn_host.specs.Runs.{Looked}
 use Rattle.nn_host.proofs.MomentsLemmas.{frame_refl}
 use Rattle.nn_host.proofs.RunsLemmas.{untouched_refl}
-use Rattle.nn_small.specs.Whole.{answered, whole_of}
+use Rattle.nn_small.specs.Whole.{answered}
 use Rattle.nn_small.specs.declared.read.ReadAll.{ReadAll}
-use Rattle.nn_small.specs.declared.read.ReadAll.TheVariants.{Failed, Absent, TooLarge, Memory}
+use Rattle.nn_small.specs.declared.read.ReadAll.TheVariants.{Failed, Memory}
 
 -- looks, and what was answered
 
@@ -41,27 +40,8 @@ take_less : (n size : ℕ) (bytes : List ℕ) → (n ≡ size) ⊎ (length bytes
 take_less n size bytes all le = ⊎_elim (λ same. ap (λ k. take k bytes) same) (λ short. take_all n bytes short ∙ sym (take_all size bytes (omega arith))) all
 
 -- what is left of a buffer that is cut to the bytes read
-pub read_is : {file : Option (List ℕ)} {n : ℕ} {old new : List ℕ} → IsRead file 0 n old new → (size len : ℕ) (rest : List ℕ) → length old ≡ size → length new ≡ len → take n (take len (new ++ rest)) ≡ take size (bytes_of file)
-read_is {file} {n} {old} {new} read size len rest full whole = ap (take n) (take_at new rest len whole) ∙ read.front ∙ take_less n size (bytes_of file) all (omega (arith, read.count))
+pub read_is : (file : Option (List ℕ)) {n : ℕ} {old new out : List ℕ} (size len : ℕ) (rest : List ℕ) → IsRead file 0 n old new → out ≡ take n (take len (new ++ rest)) → length old ≡ size → length new ≡ len → out ≡ take size (bytes_of file)
+read_is file {n} {old} {new} size len rest read cut full whole = cut ∙ ap (take n) (take_at new rest len whole) ∙ read.front ∙ take_less n size (bytes_of file) all (omega (arith, read.count))
   where
     all : (n ≡ size) ⊎ (length (bytes_of file) ≤ n)
     all = grind (arith, read.count, full)
-
--- what is answered, by what was asked
-
-pub whole_absent : (limit : ℕ) (file : Option (List ℕ)) → is_some file ≡ false → whole_of limit file ≡ Err Absent
-whole_absent limit None is = refl
-whole_absent limit (Some bytes) is = cc
-
-pub whole_too_large : (limit size : ℕ) (file : Option (List ℕ)) → is_some file ≡ true → size ≡ length (bytes_of file) → limit < size → whole_of limit file ≡ Err (TooLarge size)
-whole_too_large limit size None is has above = cc
-whole_too_large limit size (Some bytes) is has above =
-    let over = lt-leb (length bytes) limit (omega arith) in
-    λ k. if over k then Ok bytes else Err (TooLarge (sym has k))
-
-pub whole_within : (limit size : ℕ) (file : Option (List ℕ)) (read : List ℕ) → is_some file ≡ true → size ≡ length (bytes_of file) → size ≤ limit → read ≡ take size (bytes_of file) → whole_of limit file ≡ Ok read
-whole_within limit size None read is has fits front = cc
-whole_within limit size (Some bytes) read is has fits front =
-    let under = le-leb (length bytes) limit (omega arith) in
-    let same : bytes ≡ read = sym (front ∙ take_all size bytes (omega arith)) in
-    λ k. if under k then Ok (same k) else Err (TooLarge (length bytes))

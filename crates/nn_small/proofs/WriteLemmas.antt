@@ -4,7 +4,7 @@ use Rattle.std.specs.Prelude.{Bool, true, false, if◌then◌else◌, ◌&&◌, 
 use Rattle.nn_base.specs.declared.sub.Sub.{Sub}
 use Rattle.nn_base.specs.declared.file_name.FileName.{FileName}
 use Rattle.nn_base.specs.Names.{sub_eq, file_eq}
-use Rattle.nn_host.specs.Disk.{Held, Disk, Reads, File, Call, MakeFile, Append, Sync, RenameFile, Leaves, LeavesFile, with_file, after, reads_after, disk_after, added, add_pending, certain, fresh_file}
+use Rattle.nn_host.specs.Disk.{Held, Disk, Reads, File, Call, MakeFile, Append, Sync, RenameFile, with_file, after, reads_after, disk_after, added, add_pending, certain, fresh_file}
 use Rattle.nn_host.specs.Moments.{State, IsLawful, disk_at}
 use Rattle.nn_host.specs.Calls.{Called, Done}
 use Rattle.nn_host.specs.Runs.{OnlyAt}
@@ -14,6 +14,7 @@ use Rattle.nn_host.proofs.MakesLemmas.{Makes}
 use Rattle.nn_host.proofs.TouchLemmas.{Touches, Moves, untouched, unmoved, rooted}
 use Rattle.nn_host.proofs.WorkLemmas.{work_once, work_more}
 use Rattle.nn_small.specs.Small.{OldOrNew, Written, replaced}
+use Rattle.nn_small.proofs.SmallLemmas.{old_or_new_refl}
 
 -- what each step leaves
 
@@ -36,19 +37,6 @@ module _ {A : Type 0} (d : Held A) (s : Sub) where
   named fresh add tmp name a = λ i. if is_some (there d s tmp (Some a) i) then with_file (again tmp (Some a) None i) s name (there d s tmp (Some a) i) else with_file d s tmp (Some a)
 
 -- at each moment the file is the old one or the new one
-
-module _ (sub : Sub) (tmp name : FileName) (bytes : List ℕ) where
-  pub old_or_new_refl : (d : Disk) → OldOrNew sub tmp name bytes d d
-  old_or_new_refl d = record { root = refl; subs = λ s. refl; other_subs = λ s n ne. refl; other_files = λ n a b. refl; file = inl refl }
-
-  pub old_or_new_trans : (a b c : Disk) → OldOrNew sub tmp name bytes a b → OldOrNew sub tmp name bytes b c → OldOrNew sub tmp name bytes a c
-  old_or_new_trans a b c p q = record {
-    root = q.root ∙ p.root;
-    subs = λ s. q.subs s ∙ p.subs s;
-    other_subs = λ s n ne. q.other_subs s n ne ∙ p.other_subs s n ne;
-    other_files = λ n x y. q.other_files n x y ∙ p.other_files n x y;
-    file = ⊎_elim (λ same. ⊎_elim (λ old. inl (same ∙ old)) (λ new. inr (same ∙ new)) p.file) (λ new. inr new) q.file;
-  }
 
 module _ (sub : Sub) (tmp name : FileName) (apart : tmp ≢ name) (bytes : List ℕ) (old : Disk) where
   -- a call that touches no name but the .tmp

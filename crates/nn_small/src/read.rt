@@ -56,8 +56,8 @@ pub fn read_all<H: Host>(
     requires { i.0 < (H.state host.old).count }
     ensures ok { H.told → IfOk result (λ bytes. whole_of limit (((H.state host.old).reads i.0).file sub name) ≡ Ok bytes.items) }
     ensures err { H.told → IfErr result (λ fault. fault ≢ ReadAll.Failed → fault ≢ ReadAll.Memory → whole_of limit (((H.state host.old).reads i.0).file sub name) ≡ Err fault) }
-    ensures few { IfOk result (λ bytes. vec_len bytes ≤ limit) }
-    ensures many { IfErr result (λ fault. (size : ℕ) → fault ≡ ReadAll.TooLarge size → limit < size) }
+    ensures within { IfOk result (λ bytes. vec_len bytes ≤ limit) }
+    ensures above { IfErr result (λ fault. (size : ℕ) → fault ≡ ReadAll.TooLarge size → limit < size) }
     ensures kept { Looked H.told i.0 (H.state host.old) (H.state host.new) (answered result) }
 {
     let file = &name;
@@ -83,7 +83,7 @@ fn read_front<H: Host>(
     requires { i.0 < (H.state host.old).count }
     ensures ok { H.told → IfOk result (λ bytes. bytes.items ≡ take size (bytes_of (((H.state host.old).reads i.0).file sub name))) }
     ensures err { IfErr result (λ fault. (fault ≡ ReadAll.Failed) ⊎ (fault ≡ ReadAll.Memory)) }
-    ensures few { IfOk result (λ bytes. vec_len bytes ≤ size) }
+    ensures within { IfOk result (λ bytes. vec_len bytes ≤ size) }
     ensures kept { Looked H.told i.0 (H.state host.old) (H.state host.new) (answered result) }
 {
     let mut bytes = vec![in alloc; 0; size as usize]?;

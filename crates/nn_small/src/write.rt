@@ -11,8 +11,8 @@ use nn_host::{Failed, Host};
 /// Writes a file of these bytes in the subfolder, in place of the one of that name, if there is one. On the way it is
 /// called `tmp`, and a file of that name is lost.
 ///
-/// Where the subfolder isn't there, nothing is written. After `Failed` the file is the old one or the new one, and a
-/// `tmp` may be left. The order is that of Hadoop's `AtomicFileOutputStream`.
+/// Where the subfolder isn't there, `Ok` means nothing. After `Failed` the file is the old one or the new one, and a `tmp`
+/// may be left. The order is that of Hadoop's `AtomicFileOutputStream`.
 pub fn write_small<H: Host>(
     host: &mut H,
     i: DirNo,

@@ -1,4 +1,4 @@
-use Rattle.std.proofs.Common.{◌∙◌, arith}
+use Rattle.std.proofs.Common.{arith}
 use Rattle.nn_host.proofs.RunsLemmas.{looked_once}
 use Rattle.nn_small.proofs.ReadLemmas.{looked_refl, looked_failed, looked_memory, read_is}
 use Rattle.nn_small.proofs.read.read_front.Goals as goal
@@ -14,6 +14,6 @@ returns-clause-kept g c = looked_once c.in_ok-count.ensures.call
 
 pub returns-clause-ok : goal.returns-clause-ok
 returns-clause-ok g c = λ tells.
-    let read = c.in_ok-count.ensures.value tells in
+    let file = ((g.H.Host.state c.args.host.now).reads c.args.i.0).file c.args.sub c.args.name in
     let full = c.in_ok-bytes.ensures.len in
-    c.truncate.ensures.items ∙ read_is read c.args.size c.in_ok-bytes.bytes.len _ (omega arith) (omega arith)
+    read_is file c.args.size c.in_ok-bytes.bytes.len _ (c.in_ok-count.ensures.value tells) c.truncate.ensures.items (omega arith) (omega arith)
