@@ -1,3 +1,9 @@
+pub mod FilesLemmas
+pub mod LeavesLemmas
+pub mod MakesLemmas
+pub mod LawfulLemmas
+pub mod TouchLemmas
+pub mod CleanLemmas
 pub mod MomentsLemmas
 pub mod RunsLemmas
-pub mod LeavesLemmas
+pub mod WorkLemmas

@@ -1,4 +1,5 @@
 pub mod Disk
+pub mod Listing
 pub mod Moments
 pub mod Calls
 pub mod Runs

@@ -4,4 +4,4 @@
 
 mod host;
 
-pub use host::{Failed, Host};
+pub use host::{Failed, Host, ListFault};

@@ -1,0 +1,3 @@
+pub mod SmallLemmas
+pub mod WriteLemmas
+pub mod ReadLemmas

@@ -1,0 +1,19 @@
+use Rattle.std.proofs.Common.{arith}
+use Rattle.nn_host.proofs.RunsLemmas.{looked_once}
+use Rattle.nn_small.proofs.ReadLemmas.{looked_refl, looked_failed, looked_memory, read_is}
+use Rattle.nn_small.proofs.read.read_front.Goals as goal
+
+pub returns-in_err-bytes-clause-kept : goal.returns-in_err-bytes-clause-kept
+returns-in_err-bytes-clause-kept g c = looked_memory _ c.from_residual.ensures.1 looked_refl
+
+pub returns-in_err-count-clause-kept : goal.returns-in_err-count-clause-kept
+returns-in_err-count-clause-kept g c = looked_failed _ c.from_residual-in_err-count.ensures.1 (looked_once c.in_err-count.ensures.call)
+
+pub returns-clause-kept : goal.returns-clause-kept
+returns-clause-kept g c = looked_once c.in_ok-count.ensures.call
+
+pub returns-clause-ok : goal.returns-clause-ok
+returns-clause-ok g c = λ tells.
+    let file = ((g.H.Host.state c.args.host.now).reads c.args.i.0).file c.args.sub c.args.name in
+    let full = c.in_ok-bytes.ensures.len in
+    read_is file c.args.size c.in_ok-bytes.bytes.len _ (c.in_ok-count.ensures.value tells) c.truncate.ensures.items (omega arith) (omega arith)
