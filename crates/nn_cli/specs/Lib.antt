@@ -1,5 +1,4 @@
 pub mod Words
-pub mod Folders
 pub mod Codes
 pub mod Lines
 pub mod States

@@ -2,7 +2,7 @@
 //! What it does with name directories stands in the crates below.
 #![tactic(auto)]
 
-mod folders;
+mod real;
 mod refusal;
 mod run;
 mod states;
@@ -11,7 +11,6 @@ mod status;
 mod tests;
 mod words;
 
-pub use folders::Folders;
 pub use refusal::Refusal;
 pub use run::namenode;
 pub use states::say_states;
@@ -33,7 +32,7 @@ fn main(rt: HostRuntime) -> ExitCode {
         Err(_) => Ok(Vec::new(alloc)),
     };
     match words {
-        Ok(words) => ExitCode::from(folders::run(rt, alloc, &words)),
+        Ok(words) => ExitCode::from(real::run(rt, alloc, &words)),
         Err(_) => no_memory(),
     }
 }

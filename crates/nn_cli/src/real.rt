@@ -1,0 +1,42 @@
+// Runs over real folders and the real output.
+ghost use Rattle.std.specs.Prelude.{◌≤◌, length};
+ghost use Rattle.nn_cli.specs.Words.{texts, AskStates, HaveNoReading};
+
+use crate::{Status, WordsFault, dirs_of, namenode};
+use nn_base::NoMemory;
+use nn_files::FileHost;
+use std::alloc::Global;
+use std::rt::Files;
+
+/// Does what the words ask for over the real folders that they name, and gives the exit status.
+pub fn run<R: Files + Print + Drop>(rt: R, alloc: Global, words: &[String]) -> u8 {
+    match dirs_of(alloc, words) {
+        Ok(dirs) => run_over(rt, alloc, words, dirs),
+        Err(WordsFault::Usage) => run_unread(rt, alloc, words),
+        Err(WordsFault::Memory) => Status::Memory.code(),
+    }
+}
+
+fn run_over<R: Files + Print + Drop>(
+    rt: R,
+    alloc: Global,
+    words: &[String],
+    dirs: Vec<String>,
+) -> u8
+    requires { AskStates (texts words.now) (texts dirs.items) }
+{
+    match FileHost::open(rt, alloc, dirs) {
+        Ok(mut host) => namenode(alloc, words, &mut host).code(),
+        Err(NoMemory) => Status::Memory.code(),
+    }
+}
+
+// Words without a reading name no folder.
+fn run_unread<R: Files + Print + Drop>(rt: R, alloc: Global, words: &[String]) -> u8
+    requires { HaveNoReading (texts words.now) }
+{
+    match FileHost::open(rt, alloc, Vec::new(alloc)) {
+        Ok(mut host) => namenode(alloc, words, &mut host).code(),
+        Err(NoMemory) => Status::Memory.code(),
+    }
+}
