@@ -1,5 +1,5 @@
 -- The front of a path is a path.
-use Rattle.std.proofs.Common.{◌≡◌, ◌≤◌, ◌<◌, ◌+◌, ℕ, zero, suc, Bool, true, false, not, ◌||◌, nat_lt, refl, List, [], ◌∷◌, ◌++◌, length, take, ap, sym, subst, ◌∙◌, arith, ◌*◌, length-append, get_or}
+use Rattle.std.proofs.Common.{◌≡◌, ◌≤◌, ◌<◌, ◌+◌, ℕ, zero, suc, Bool, true, false, not, ◌||◌, nat_lt, refl, [], ◌∷◌, ◌++◌, length, take, ap, sym, subst, ◌∙◌, arith, ◌*◌, length-append, get_or}
 use Rattle.std.specs.Prelude.{All}
 use Rattle.std.proofs.lemmas.Bool.Decides.{nat_tests}
 use Rattle.std.proofs.lemmas.List.Elements.{All-take, All-push}
