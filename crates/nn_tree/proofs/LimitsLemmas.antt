@@ -1,5 +1,5 @@
 -- The limits of a namespace under its changes.
-use Rattle.std.proofs.Common.{◌≡◌, ℕ, ◌+◌, ◌<◌, ◌≤◌, Bool, true, false, not, cond, List, [], ◌∷◌, map, length, Option, Some, None, refl, sym, ap, subst, ◌∙◌, arith, ◌^◌, ◌++◌, length-append}
+use Rattle.std.proofs.Common.{◌≡◌, ℕ, ◌+◌, ◌<◌, ◌≤◌, Bool, true, false, not, cond, List, [], ◌∷◌, map, length, Option, Some, None, refl, sym, ap, subst, ◌∙◌, arith, ◌^◌, length-append}
 use Rattle.std.specs.FinMap.{get, insert, empty}
 use Rattle.nn_base.specs.Paths.{Names, path_cmp, is_under}
 use Rattle.nn_tree.specs.declared.node.Node.{Node}
