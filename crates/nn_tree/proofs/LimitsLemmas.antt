@@ -1,5 +1,5 @@
 -- The limits of a namespace under its changes.
-use Rattle.std.proofs.Common.{◌≡◌, ℕ, ◌+◌, ◌<◌, ◌≤◌, Bool, true, false, not, cond, List, [], ◌∷◌, map, length, Option, Some, None, refl, sym, ap, subst, ◌∙◌, arith}
+use Rattle.std.proofs.Common.{◌≡◌, ℕ, ◌+◌, ◌<◌, ◌≤◌, Bool, true, false, not, cond, List, [], ◌∷◌, map, length, Option, Some, None, refl, sym, ap, subst, ◌∙◌, arith, ◌^◌, length-append}
 use Rattle.std.specs.FinMap.{get, insert, empty}
 use Rattle.nn_base.specs.Paths.{Names, path_cmp, is_under}
 use Rattle.nn_tree.specs.declared.node.Node.{Node}
@@ -10,13 +10,18 @@ use Rattle.nn_tree.proofs.LinksLemmas.{paths_total, paths_exact, some_is, differ
 use Rattle.std.specs.Prelude.{sum_by}
 use Rattle.std.specs.Ordering.{eq_by_cmp}
 use Rattle.std.specs.FinMap.{entries, retain_keys, get-retain_keys, get-insert, get-empty}
+use Rattle.std.proofs.lemmas.List.Elements.{All-push}
 use Rattle.std.proofs.lemmas.List.Sums.{sum_by-cons}
 use Rattle.nn_tree.specs.Totals.{total}
 use Rattle.nn_tree.specs.Slots.{rekey_slot, Differ}
 use Rattle.nn_tree.specs.Nodes.{blocks_of}
 use Rattle.nn_tree.specs.Namespace.{node_count, block_count, root_node}
-use Rattle.nn_tree.specs.Limits.{IsNode, IsWithinLimits}
-use Rattle.nn_tree.specs.Changes.{cut, change_at}
+use Rattle.nn_tree.specs.Limits.{IsBlock, IsKind, IsNode, IsWithinLimits}
+use Rattle.nn_tree.specs.declared.node.Block.{Block}
+use Rattle.nn_tree.specs.declared.node.Kind.{Kind}
+use Rattle.nn_tree.specs.declared.node.Kind.TheVariants.{File, Dir}
+use Rattle.nn_tree.specs.declared.node.Change.TheVariants.{Time}
+use Rattle.nn_tree.specs.Changes.{cut, change_at, changed, add_block, with_block}
 use Rattle.nn_tree.proofs.TotalsLemmas.{total-insert, total-insert_old, total-retain_keys}
 use Rattle.nn_tree.proofs.SlotsLemmas.{hit, found, total-empty}
 use Rattle.nn_tree.proofs.RekeyLemmas.{slot_map, rekeyed_from}
@@ -86,6 +91,37 @@ limits_change_at m p f node h is ok blocks =
       blocks = let e = total-insert_old path_cmp paths_total paths_exact (λ (_ : Names) (node : Node). length (blocks_of node.kind)) m p (f node) node is in omega arith;
       each = λ q x at. at_key m p q (f node) x h.each ok at;
     })
+
+-- one block more in a file
+block_is_kind : (block : Block) (kind : Kind) → IsKind kind → IsBlock block → length (blocks_of kind) < 10000 → IsKind (add_block block kind)
+block_is_kind block (File replication is_open blocks) h ok few = record {
+  replicated = λ r is. h.replicated r is;
+  few = omega (arith, length-append blocks (block ∷ []));
+  blocks = All-push IsBlock blocks block h.blocks ok;
+  names = λ n is. h.names n is;
+  space = λ n is. h.space n is;
+}
+block_is_kind block (Dir quota) h ok few = h
+
+one_block_more : (block : Block) (kind : Kind) → length (blocks_of (add_block block kind)) ≤ length (blocks_of kind) + 1
+one_block_more block (File replication is_open blocks) = omega (arith, length-append blocks (block ∷ []))
+one_block_more block (Dir quota) = omega arith
+
+pub limits_block : (m : Nodes) (p : Names) (block : Block) (node : Node) → IsWithinLimits m → get m p ≡ Some node → IsBlock block → length (blocks_of node.kind) < 10000 → block_count m < 8388608 → IsWithinLimits (change_at p (with_block block) m)
+limits_block m p block node h is ok few room =
+    let old = h.each p node is in
+    limits_change_at m p (with_block block) node h is
+    (record { id = old.id; mode = old.mode; time = old.time; kind = block_is_kind block node.kind old.kind ok few })
+    (let one = one_block_more block node.kind in omega arith)
+
+-- an earlier or later time of a node
+pub limits_time : (m : Nodes) (p : Names) (time : ℕ) (node : Node) → IsWithinLimits m → get m p ≡ Some node → time < 2 ^ 63 → IsWithinLimits (change_at p (changed (Time time)) m)
+limits_time m p time node h is ok =
+    let old = h.each p node is in
+    let most = h.blocks in
+    limits_change_at m p (changed (Time time)) node h is
+    (record { id = old.id; mode = old.mode; time = ok; kind = old.kind })
+    (omega arith)
 
 -- the empty namespace
 root_is_node : IsNode root_node

@@ -65,13 +65,19 @@ module _ {K X : Type 0} {R : K → K → Ordering} (o : IsTotalOrder R) (same : 
   map_some f [] = refl
   map_some f (e ∷ es) = ap (λ s. Some (f e.0, e.1) ∷ s) (map_some f es)
 
+  -- a key that one list of slots has becomes one that the other has
+  carry_key : (f : K → K) (s t : List (Option (K × X))) → of_slots {R = R} s ≡ of_slots t → Differ s → Differ (map (rekey_slot f) t) → (i : ℕ) (k : K) (x : X)
+      → slot_at s i ≡ Some (k, x) → get (of_slots {R = R} (map (rekey_slot f) t)) (f k) ≡ Some x
+  carry_key f s t e ds dt i k x at =
+      let c = found o same t k x (ap (λ (m : FinMap R X). get m k) (sym e) ∙ hit o same s i k x ds at) in
+      hit o same (map (rekey_slot f) t) c.0 (f k) x dt (slot_map f t c.0 ∙ ap (rekey_slot f) c.1)
+
   carry : (f : K → K) (s t : List (Option (K × X))) → of_slots {R = R} s ≡ of_slots t → Differ s → Differ (map (rekey_slot f) t) → (q : K) (x : X)
       → get (of_slots {R = R} (map (rekey_slot f) s)) q ≡ Some x → get (of_slots {R = R} (map (rekey_slot f) t)) q ≡ Some x
   carry f s t e ds dt q x h =
       let a = found o same (map (rekey_slot f) s) q x h in
       let b = rekeyed_from f (slot_at s a.0) q x (sym (slot_map f s a.0) ∙ a.1) in
-      let c = found o same t b.0 x (ap (λ (m : FinMap R X). get m b.0) (sym e) ∙ hit o same s a.0 b.0 x ds b.1) in
-      hit o same (map (rekey_slot f) t) c.0 q x dt (slot_map f t c.0 ∙ ap (rekey_slot f) c.1 ∙ ap (λ k. Some (k, x)) b.2)
+      subst (λ (q : K). get (of_slots {R = R} (map (rekey_slot f) t)) q ≡ Some x) b.2 (carry_key f s t e ds dt a.0 b.0 x b.1)
 
   differ_rekeyed : (f : K → K) (s t : List (Option (K × X))) → of_slots {R = R} s ≡ of_slots t → Differ s → Differ (map (rekey_slot f) s) → Differ t → Differ (map (rekey_slot f) t)
   differ_rekeyed f s t e ds dfs dt i j a b p q k =

@@ -1,13 +1,13 @@
 // One small tree, driven through the trait as commands drive it.
 ghost use Rattle.std.specs.Prelude.{◌≡◌, ◌<◌, ◌≤◌, ◌^◌, true, None, []};
 ghost use Rattle.std.specs.FinMap as map;
-ghost use Rattle.nn_tree.specs.Namespace.{node_count, is_dir_at};
-ghost use Rattle.nn_tree.specs.Limits.{IsNode};
+ghost use Rattle.nn_tree.specs.Namespace.{node_count, is_dir_at, is_file_at};
+ghost use Rattle.nn_tree.specs.Limits.{IsBlock, IsKind, IsNode};
 ghost use Rattle.nn_tree.specs.Nodes.{blocks_of};
 ghost use Rattle.nn_tree.specs.Spots.{IsSound};
 
 use super::*;
-use crate::Kind;
+use crate::{Blocks, Kind};
 use nn_base::Label;
 use nn_quota::Quota;
 use std::process::Abort;
@@ -21,11 +21,12 @@ fn path(alloc: Global, parts: &[&[u8]]) -> Result<Path, Fail> {
     Ok(Path::of(names).ok_or("a path")?)
 }
 
-/// A directory that has nothing but an id.
-fn directory(id: u64, label: Label) -> Node
-    requires { id < 2 ^ 63 }
+/// A node that has nothing but an id.
+fn node(id: u64, label: Label, kind: Kind) -> Node
+    requires id { id < 2 ^ 63 }
+    requires kind { IsKind kind }
     ensures node { IsNode result }
-    ensures empty { blocks_of result.kind ≡ [] }
+    ensures kind { result.kind ≡ kind }
 {
     Node {
         id,
@@ -33,13 +34,40 @@ fn directory(id: u64, label: Label) -> Node
         group: label,
         mode: 0o755,
         time: 0,
-        kind: Kind::Dir {
-            quota: Quota {
-                names: None,
-                space: None,
-            },
-        },
+        kind,
     }
+}
+
+fn directory(id: u64, label: Label) -> Node
+    requires { id < 2 ^ 63 }
+    ensures node { IsNode result }
+    ensures empty { blocks_of result.kind ≡ [] }
+{
+    let quota = Quota {
+        names: None,
+        space: None,
+    };
+    node(id, label, Kind::Dir { quota })
+}
+
+/// An open file of three replicas.
+fn file(alloc: Global, id: u64, label: Label) -> Node
+    requires { id < 2 ^ 63 }
+    ensures node { IsNode result }
+    ensures empty { blocks_of result.kind ≡ [] }
+{
+    let blocks = Blocks {
+        list: Vec::new(alloc),
+    };
+    node(
+        id,
+        label,
+        Kind::File {
+            replication: 3,
+            is_open: true,
+            blocks,
+        },
+    )
 }
 
 fn found<T: Tree>(rt: &impl Abort, tree: &T, path: &Path) -> Spot
@@ -121,7 +149,50 @@ fn move_up<T: Tree>(
     Ok(at)
 }
 
-fn drive<T: Tree>(rt: &impl Abort, alloc: Global, label: Label) -> Result<(), Fail> {
+fn block(length: u64) -> Block
+    requires some { 0 < length }
+    requires few { length ≤ 2 ^ 40 }
+    ensures { IsBlock result }
+{
+    Block {
+        id: 1_073_741_825,
+        stamp: 1001,
+        length,
+    }
+}
+
+fn add<T: Tree>(rt: &impl Abort, tree: &mut T, path: &Path, block: Block) -> Result<(), Fail>
+    requires { IsBlock block }
+{
+    let at = found(rt, tree, path);
+    tree.reserve(at)?;
+    let at = found(rt, tree, path);
+    has_file(rt, tree, at);
+    let _counters = tree.counters();
+    assert!(rt; tree.blocks() < 8_388_608);
+    assert!(rt; tree.node(at).kind.block_count() < 10_000);
+    tree.add_block(at, block);
+    Ok(())
+}
+
+fn has_file<T: Tree>(rt: &impl Abort, tree: &T, at: Spot)
+    requires { T.has tree.now at ≡ true }
+    ensures { is_file_at (T.meaning tree.now).nodes (T.place tree.now at) ≡ true }
+{
+    assert!(rt; !tree.node(at).kind.is_dir());
+}
+
+fn touch<T: Tree>(rt: &impl Abort, tree: &mut T, path: &Path, time: u64)
+    requires { time < 2 ^ 63 }
+{
+    let at = found(rt, tree, path);
+    let _counters = tree.counters();
+    let _node = tree.node(at);
+    tree.change(at, Change::Time(time));
+}
+
+/// Makes `/a`, `/a/b` and `/q`, and moves `/a/b` to `/q/b`.
+fn move_a_directory<T: Tree>(rt: &impl Abort, alloc: Global, label: Label) -> Result<(), Fail> {
     let mut tree = T::new(alloc)?;
     make(
         rt,
@@ -158,15 +229,37 @@ fn drive<T: Tree>(rt: &impl Abort, alloc: Global, label: Label) -> Result<(), Fa
         let at = found(rt, &tree, &path(alloc, &[name])?);
         assert_eq!(rt; tree.usage(at), Usage { names, space: 0 });
     }
+    Ok(())
+}
+
+/// Makes a file of three replicas with two blocks, and removes it.
+fn fill_a_file<T: Tree>(rt: &impl Abort, alloc: Global, label: Label) -> Result<(), Fail> {
+    let mut tree = T::new(alloc)?;
+    let f = path(alloc, &[b"f"])?;
+    make(rt, alloc, &mut tree, &f, file(alloc, 16386, label))?;
+    add(rt, &mut tree, &f, block(50))?;
+    add(rt, &mut tree, &f, block(7))?;
+    touch(rt, &mut tree, &f, 9);
+    assert_eq!(rt; tree.blocks(), 2);
     let root = found(rt, &tree, &Path::root(alloc));
-    assert_eq!(rt; tree.usage(root), Usage { names: 4, space: 0 });
-    let first = tree.first_child(root).ok_or("a child")?;
-    assert_eq!(rt; tree.find(&path(alloc, &[b"a"])?), Walk::Found(first));
-    assert_eq!(rt; tree.blocks(), 0);
+    assert_eq!(rt;
+        tree.usage(root),
+        Usage {
+            names: 2,
+            space: 171
+        }
+    );
+    assert!(rt; f.depth() > 0);
+    let at = found(rt, &tree, &f);
+    assert_eq!(rt; tree.node(at).time, 9);
+    tree.remove(at);
+    assert_eq!(rt; tree.find(&f), Walk::Missing);
     Ok(())
 }
 
 #[test]
-fn a_moved_directory_keeps_its_spot_and_counts_where_it_is(rt: HostRuntime) -> Result<(), Fail> {
-    drive::<PlainTree>(&rt, rt.alloc(), Label::of(b"hdfs").ok_or("a label")?)
+fn nodes_keep_their_spots_and_count_where_they_are(rt: HostRuntime) -> Result<(), Fail> {
+    let label = Label::of(b"hdfs").ok_or("a label")?;
+    move_a_directory::<PlainTree>(&rt, rt.alloc(), label)?;
+    fill_a_file::<PlainTree>(&rt, rt.alloc(), label)
 }
