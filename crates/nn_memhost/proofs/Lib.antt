@@ -1,5 +1,3 @@
-pub mod KeptLemmas
-pub mod PastLemmas
-pub mod Calls
-pub mod Saying
-pub mod Anew
+pub mod FilesLemmas
+pub mod EditLemmas
+pub mod HeldLemmas

@@ -2,10 +2,14 @@
 //! It knows nothing of real folders, nor of what the files mean.
 #![tactic(auto)]
 
+mod asked;
 mod counts;
 mod kept;
 mod mem;
 mod past;
 
+pub use asked::{Asked, carry};
+pub use counts::{none, raise, raise_out};
+pub use kept::KeptDir;
 pub use mem::MemHost;
-pub use past::Part;
+pub use past::{Logged, Part, Request, keep, part_of, taken, utter};
