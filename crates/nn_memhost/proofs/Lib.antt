@@ -1,3 +1,6 @@
 pub mod FilesLemmas
 pub mod EditLemmas
 pub mod HeldLemmas
+pub mod DirsLemmas
+pub mod ViewLemmas
+pub mod PastLemmas

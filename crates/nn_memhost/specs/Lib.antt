@@ -8,3 +8,4 @@ pub mod Past
 pub mod Base
 pub mod Given
 pub mod Mem
+pub mod Lawful

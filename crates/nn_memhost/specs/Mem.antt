@@ -15,9 +15,13 @@ use Rattle.nn_memhost.specs.Past.{Past, kept_at, start, run, state_of, moment_of
 abbrev pub start_of : MemHost → Past
 start_of m = start (kept_at (base_of m.base m.dirs.items)) (take m.said_before m.said.items) m.began
 
+-- what the record of calls comes to
+abbrev pub past_of : MemHost → Past
+past_of m = run (start_of m) m.calls.items
+
 -- the record of calls, over the contents at its beginning
 abbrev pub mem_state : MemHost → State
-mem_state m = state_of (run (start_of m) m.calls.items) m.counts (length m.dirs.items)
+mem_state m = state_of (past_of m) m.counts (length m.dirs.items)
 
 -- what the list says that the next call leaves, if it names it
 abbrev pub next_part : MemHost → Option Part

@@ -1,5 +1,5 @@
 // A file that is kept in memory.
-ghost use Rattle.std.specs.Prelude.{◌≡◌, ℕ, ◌+◌, ◌≤◌, ◌<◌, ◌&&◌, ◌++◌, [], true, false, Some, None, is_some, OnOk, OnErr, IfOk, option_map, if◌then◌else◌, length, map, take};
+ghost use Rattle.std.specs.Prelude.{◌≡◌, ℕ, ◌+◌, ◌-◌, ◌≤◌, ◌<◌, ◌&&◌, ◌++◌, [], true, false, Some, None, is_some, OnOk, OnErr, IfOk, option_map, if◌then◌else◌, length, map, take};
 ghost use Rattle.std.specs.List.{position_or_len};
 ghost use Rattle.nn_base.specs.Names.{sub_eq, file_eq};
 ghost use Rattle.nn_base.specs.declared.sub.Sub.{Sub as S};
@@ -19,7 +19,7 @@ pub struct KeptFile {
     pub synced: usize,
     pub pending: Vec<u8>,
     ghost within: { synced ≤ length bytes.items },
-    ghost handed: { length bytes.items ≤ synced + length pending.items },
+    ghost handed: { length bytes.items - synced ≤ length pending.items },
 }
 
 impl KeptFile {
