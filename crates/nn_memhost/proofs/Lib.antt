@@ -4,3 +4,5 @@ pub mod HeldLemmas
 pub mod DirsLemmas
 pub mod ViewLemmas
 pub mod PastLemmas
+pub mod Calls
+pub mod Hosts
