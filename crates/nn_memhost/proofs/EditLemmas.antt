@@ -24,6 +24,9 @@ module _ (s : Sub) (n : FileName) (fs : List KeptFile) (k : ℕ) (is : k ≡ pos
   pub found_file : (x : KeptFile) → k < length fs → x ≡ get_or fs k x → content_at fs s n ≡ Some (content_of x)
   found_file x lt at = (found s n (map placed_of fs) k (placed_of x) is (below lt) (placed_at fs k x at)).1
 
+  pub absent_file : length fs ≤ k → content_at fs s n ≡ None
+  absent_file le = absent s n (map placed_of fs) (omega (arith, le, is, length-map fs placed_of))
+
   -- the file there is changed
   pub edited : (g : Content → Content) (x y : KeptFile) → k < length fs → x ≡ get_or fs k x → y.sub ≡ x.sub → y.name ≡ x.name → content_of y ≡ g (content_of x)
       → (q : Sub) (m : FileName) → content_at (slice_set fs k y) q m ≡ (if sub_eq q s && file_eq m n then option_map g (content_at fs s n) else content_at fs q m)

@@ -6,3 +6,6 @@ pub mod ViewLemmas
 pub mod PastLemmas
 pub mod Calls
 pub mod Hosts
+pub mod Anew
+pub mod Saying
+pub mod Looks

@@ -1,6 +1,6 @@
 // A name directory as it is kept in memory.
 mod file;
-mod files;
+pub mod files;
 
 ghost use Rattle.std.specs.Prelude.{◌≡◌, ℕ, ◌+◌, ◌≤◌, ◌<◌, ◌++◌, true, false, Some, None, OnOk, OnErr, IfOk, is_some, length, if◌then◌else◌};
 ghost use Rattle.nn_base.specs.Names.{sub_eq, sub_code};
@@ -38,7 +38,7 @@ fn place(sub: Sub) -> usize
     }
 }
 
-fn has_sub(subs: &[bool; 7], sub: Sub) -> bool
+pub fn has_sub(subs: &[bool; 7], sub: Sub) -> bool
     ensures { result ≡ has_flag subs.now sub }
 {
     subs[place(sub)]

@@ -9,9 +9,5 @@ mod kept;
 mod mem;
 mod past;
 
-pub use asked::{Asked, carry};
-pub use counts::{none, raise, raise_out};
-pub use dirs::{bare, carry_at, copy, give_at, settle_all, unroot_at};
-pub use kept::KeptDir;
 pub use mem::MemHost;
-pub use past::{Logged, Part, Request, keep, part_of, taken, utter};
+pub use past::Part;

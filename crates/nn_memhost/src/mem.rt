@@ -6,10 +6,10 @@ ghost use Rattle.nn_memhost.specs.Past.{start, run, kept_at};
 use crate::asked::{self, Asked};
 use crate::counts::{self, Counts};
 use crate::dirs;
-use crate::kept::KeptDir;
+use crate::kept::{self, KeptDir, files};
 use crate::past::{self, Logged, Part, Request};
 use nn_base::{DirNo, FileName, NoMemory, Sub};
-use nn_host::{Failed, Host};
+use nn_host::{Failed, Host, ListFault};
 use std::alloc::Global;
 
 /// A host in memory, for tests. It tells everything: how it reads, and what a stop inside any of its calls may leave.
@@ -65,7 +65,92 @@ impl MemHost {
     ghost use Rattle.nn_memhost.specs.declared.past.Request.TheVariants as request;
     ghost use Rattle.nn_memhost.specs.Asked.{call_of};
     ghost use Rattle.nn_memhost.specs.Past.{one};
-    ghost use Rattle.nn_memhost.specs.Mem.{past_of, mem_state, FailsAsListed};
+    ghost use Rattle.nn_memhost.specs.Given.{Anew, with_given, no_reads};
+    ghost use Rattle.nn_memhost.specs.Mem.{past_of, mem_state, new_state, FailsAsListed};
+
+    /// A host of so many directories, with all roots and nothing in them. The calls whose numbers the list has fail, and
+    /// leave the part that stands beside the number; of several mentions the first counts.
+    pub fn new(alloc: Global, dirs: u8, fails: Vec<(u64, Part)>) -> Result<MemHost, NoMemory>
+        requires { dirs ≤ 8 }
+        ensures state { IfOk result (λ m. mem_state m ≡ new_state dirs) }
+        ensures fails { IfOk result (λ m. m.fails ≡ fails) }
+        ensures starved { IfOk result (λ m. m.starved ≡ 0) }
+    {
+        let bare = dirs::bare(alloc, dirs)?;
+        Ok(MemHost {
+            alloc,
+            dirs: bare,
+            base: None,
+            said: Vec::new(alloc),
+            counts: counts::none(),
+            fails,
+            starved: 0,
+            calls: Vec::new(alloc),
+            began: counts::none(),
+            said_before: 0,
+        })
+    }
+
+    /// How many calls were recorded since the contents were last given.
+    pub fn calls(&self) -> u64
+        ensures { result ≡ moment (mem_state self.now) }
+    {
+        self.calls.len() as u64
+    }
+
+    /// How many calls failed for want of memory in the host.
+    pub fn starved(&self) -> u64
+        ensures { result ≡ self.now.starved }
+    {
+        self.starved
+    }
+
+    /// All bytes that were said.
+    pub fn said(&self) -> &[u8]
+        ensures { result.now ≡ (mem_state self.now).now.said }
+    {
+        &self.said
+    }
+
+    /// Gives directory `i` this file. Its root and its subfolder are made where they are not there.
+    ///
+    /// All contents, as they read, count as synced, and the record of calls begins anew, so that the next call has
+    /// number 0. The counts of faults and what was said stay.
+    pub fn with_file(
+        &mut self,
+        i: DirNo,
+        sub: Sub,
+        name: FileName,
+        bytes: &[u8],
+    ) -> Result<(), NoMemory>
+        requires { i.0 < (mem_state self.old).count }
+        ensures ok { OnOk result (Anew i.0 (with_given sub name bytes.now ((mem_state self.old).reads i.0)) (mem_state self.old) (mem_state self.new)) }
+        ensures err { OnErr result (mem_state self.new ≡ mem_state self.old) }
+        ensures kept { (self.new.fails ≡ self.old.fails) × (self.new.starved ≡ self.old.starved) }
+    {
+        let copy = Vec::from_slice(self.alloc, bytes)?;
+        dirs::give_at(&mut self.dirs, i, sub, name, copy)?;
+        dirs::settle_all(&mut self.dirs);
+        self.base = None;
+        self.calls.clear();
+        self.began = self.counts;
+        self.said_before = self.said.len();
+        Ok(())
+    }
+
+    /// Takes the root of directory `i` away, with all that is in it. The rest is as by `with_file`.
+    pub fn without_root(&mut self, i: DirNo)
+        requires { i.0 < (mem_state self.old).count }
+        ensures anew { Anew i.0 no_reads (mem_state self.old) (mem_state self.new) }
+        ensures kept { (self.new.fails ≡ self.old.fails) × (self.new.starved ≡ self.old.starved) }
+    {
+        dirs::unroot_at(&mut self.dirs, i);
+        dirs::settle_all(&mut self.dirs);
+        self.base = None;
+        self.calls.clear();
+        self.began = self.counts;
+        self.said_before = self.said.len();
+    }
 
     // Does and writes down a call on a directory, with what the list says that it leaves. Without memory for all of it
     // it does nothing.
@@ -110,4 +195,213 @@ impl MemHost {
             }
         }
     }
+}
+
+impl Host for MemHost {
+    ghost use Rattle.std.specs.Prelude.{List, IsErrOf};
+    ghost use Rattle.nn_base.specs.declared.file_name.FileName.{FileName as Name};
+    ghost use Rattle.nn_host.specs.declared.host.ListFault.TheVariants as list_fault;
+    ghost use Rattle.nn_host.specs.Disk.{Look, MakeSub, MakeFile, Append, Sync, RenameFile, RenameSub, RemoveFile, RemoveSub, Settle};
+    ghost use Rattle.nn_host.specs.Calls.{Called, Spoke};
+    ghost use Rattle.nn_host.specs.Listing.{IsListing, AreNames, host_part, bytes_of, IsRead};
+    ghost use Rattle.nn_memhost.specs.Mem.{mem_state, FailsAsListed, SaysAsListed};
+    ghost use Rattle.nn_memhost.specs.Lawful.{mem_lawful};
+
+    ghost told = { Unit {0} };
+
+    ghost state = { mem_state };
+
+    fn count(&self) -> u8 {
+        self.dirs.len() as u8
+    }
+
+    fn has_root(&mut self, i: DirNo) -> Result<bool, Failed>
+        requires { i.0 < (mem_state self.old).count }
+        ensures call { Called (Unit {0}) i.0 Look (mem_state self.old) (mem_state self.new) result }
+        ensures value { Unit {0} → IfOk result (λ there. there ≡ ((mem_state self.old).reads i.0).root) }
+        ensures cause { FailsAsListed self.old self.new result }
+    {
+        let dir = &self.dirs[i.0 as usize];
+        let there = dir.root;
+        self.ask(i, Asked::Look)?;
+        Ok(there)
+    }
+
+    fn has_sub(&mut self, i: DirNo, sub: Sub) -> Result<bool, Failed>
+        requires { i.0 < (mem_state self.old).count }
+        ensures call { Called (Unit {0}) i.0 Look (mem_state self.old) (mem_state self.new) result }
+        ensures value { Unit {0} → IfOk result (λ there. there ≡ ((mem_state self.old).reads i.0).has sub) }
+        ensures cause { FailsAsListed self.old self.new result }
+    {
+        let dir = &self.dirs[i.0 as usize];
+        let there = kept::has_sub(&dir.subs, sub);
+        self.ask(i, Asked::Look)?;
+        Ok(there)
+    }
+
+    fn has_file(&mut self, i: DirNo, sub: Sub, name: FileName) -> Result<bool, Failed>
+        requires { i.0 < (mem_state self.old).count }
+        ensures call { Called (Unit {0}) i.0 Look (mem_state self.old) (mem_state self.new) result }
+        ensures value { Unit {0} → IfOk result (λ there. there ≡ is_some (((mem_state self.old).reads i.0).file sub name)) }
+        ensures cause { FailsAsListed self.old self.new result }
+    {
+        let dir = &self.dirs[i.0 as usize];
+        let there = files::has(&dir.files, sub, &name);
+        self.ask(i, Asked::Look)?;
+        Ok(there)
+    }
+
+    fn list(&mut self, i: DirNo, sub: Sub, out: &mut Vec<FileName>) -> Result<(), ListFault>
+        requires { i.0 < (mem_state self.old).count }
+        ensures call { Called (Unit {0}) i.0 Look (mem_state self.old) (mem_state self.new) (host_part result) }
+        ensures ok { Unit {0} → OnOk result ((names : List Name) × (out.new.items ≡ out.old.items ++ names) × IsListing ((mem_state self.old).reads i.0) sub names) }
+        ensures failed { Unit {0} → IsErrOf result list_fault.Failed → (names : List Name) × (out.new.items ≡ out.old.items ++ names) × AreNames ((mem_state self.old).reads i.0) sub names }
+        ensures memory { IsErrOf result list_fault.Memory → out.new.items ≡ out.old.items }
+        ensures kept { (names : List Name) × (out.new.items ≡ out.old.items ++ names) }
+        ensures cause { FailsAsListed self.old self.new (host_part result) }
+    {
+        let _ = sub;
+        let _ = out;
+        match self.ask(i, Asked::Look) {
+            Ok(()) => Err(ListFault::Memory),
+            Err(Failed) => Err(ListFault::Failed),
+        }
+    }
+
+    fn size(&mut self, i: DirNo, sub: Sub, name: FileName) -> Result<u64, Failed>
+        requires { i.0 < (mem_state self.old).count }
+        ensures call { Called (Unit {0}) i.0 Look (mem_state self.old) (mem_state self.new) result }
+        ensures value { Unit {0} → IfOk result (λ size. size ≡ length (bytes_of (((mem_state self.old).reads i.0).file sub name))) }
+        ensures cause { FailsAsListed self.old self.new result }
+    {
+        let dir = &self.dirs[i.0 as usize];
+        let size = files::size(&dir.files, sub, &name);
+        self.ask(i, Asked::Look)?;
+        Ok(size)
+    }
+
+    fn read_at(
+        &mut self,
+        i: DirNo,
+        sub: Sub,
+        name: FileName,
+        at: u64,
+        out: &mut [u8],
+    ) -> Result<usize, Failed>
+        requires { i.0 < (mem_state self.old).count }
+        ensures call { Called (Unit {0}) i.0 Look (mem_state self.old) (mem_state self.new) result }
+        ensures within { IfOk result (λ n. n ≤ length out.old) }
+        ensures value { Unit {0} → IfOk result (λ n. IsRead (((mem_state self.old).reads i.0).file sub name) at n out.old out.new) }
+        ensures cause { FailsAsListed self.old self.new result }
+    {
+        let dir = &self.dirs[i.0 as usize];
+        let n = files::read_at(&dir.files, sub, &name, at, out);
+        self.ask(i, Asked::Look)?;
+        Ok(n)
+    }
+
+    fn make_sub(&mut self, i: DirNo, sub: Sub) -> Result<(), Failed>
+        requires { i.0 < (mem_state self.old).count }
+        ensures call { Called (Unit {0}) i.0 (MakeSub sub) (mem_state self.old) (mem_state self.new) result }
+        ensures cause { FailsAsListed self.old self.new result }
+    {
+        self.ask(i, Asked::MakeSub(sub))
+    }
+
+    fn make_file(&mut self, i: DirNo, sub: Sub, name: FileName) -> Result<(), Failed>
+        requires { i.0 < (mem_state self.old).count }
+        ensures call { Called (Unit {0}) i.0 (MakeFile sub name) (mem_state self.old) (mem_state self.new) result }
+        ensures cause { FailsAsListed self.old self.new result }
+    {
+        self.ask(i, Asked::MakeFile(sub, name))
+    }
+
+    fn append(&mut self, i: DirNo, sub: Sub, name: FileName, bytes: &[u8]) -> Result<(), Failed>
+        requires { i.0 < (mem_state self.old).count }
+        ensures call { Called (Unit {0}) i.0 (Append sub name bytes.now) (mem_state self.old) (mem_state self.new) result }
+        ensures cause { FailsAsListed self.old self.new result }
+    {
+        let Ok(copy) = Vec::from_slice(self.alloc, bytes) else {
+            self.starved = self.starved.saturating_add(1);
+            self.counts = counts::raise(self.counts, i.0);
+            return Err(Failed);
+        };
+        self.ask(i, Asked::Append(sub, name, copy))
+    }
+
+    fn sync(&mut self, i: DirNo, sub: Sub, name: FileName) -> Result<(), Failed>
+        requires { i.0 < (mem_state self.old).count }
+        ensures call { Called (Unit {0}) i.0 (Sync sub name) (mem_state self.old) (mem_state self.new) result }
+        ensures cause { FailsAsListed self.old self.new result }
+    {
+        self.ask(i, Asked::Sync(sub, name))
+    }
+
+    fn rename_file(
+        &mut self,
+        i: DirNo,
+        sub: Sub,
+        from: FileName,
+        to: FileName,
+    ) -> Result<(), Failed>
+        requires { i.0 < (mem_state self.old).count }
+        ensures call { Called (Unit {0}) i.0 (RenameFile sub from to) (mem_state self.old) (mem_state self.new) result }
+        ensures cause { FailsAsListed self.old self.new result }
+    {
+        self.ask(i, Asked::RenameFile(sub, from, to))
+    }
+
+    fn rename_sub(&mut self, i: DirNo, from: Sub, to: Sub) -> Result<(), Failed>
+        requires { i.0 < (mem_state self.old).count }
+        ensures call { Called (Unit {0}) i.0 (RenameSub from to) (mem_state self.old) (mem_state self.new) result }
+        ensures cause { FailsAsListed self.old self.new result }
+    {
+        self.ask(i, Asked::RenameSub(from, to))
+    }
+
+    fn remove_file(&mut self, i: DirNo, sub: Sub, name: FileName) -> Result<(), Failed>
+        requires { i.0 < (mem_state self.old).count }
+        ensures call { Called (Unit {0}) i.0 (RemoveFile sub name) (mem_state self.old) (mem_state self.new) result }
+        ensures cause { FailsAsListed self.old self.new result }
+    {
+        self.ask(i, Asked::RemoveFile(sub, name))
+    }
+
+    fn remove_sub(&mut self, i: DirNo, sub: Sub) -> Result<(), Failed>
+        requires { i.0 < (mem_state self.old).count }
+        ensures call { Called (Unit {0}) i.0 (RemoveSub sub) (mem_state self.old) (mem_state self.new) result }
+        ensures cause { FailsAsListed self.old self.new result }
+    {
+        self.ask(i, Asked::RemoveSub(sub))
+    }
+
+    fn settle(&mut self, i: DirNo) -> Result<(), Failed>
+        requires { i.0 < (mem_state self.old).count }
+        ensures call { Called (Unit {0}) i.0 Settle (mem_state self.old) (mem_state self.new) result }
+        ensures cause { FailsAsListed self.old self.new result }
+    {
+        self.ask(i, Asked::Settle)
+    }
+
+    fn say(&mut self, bytes: &[u8]) -> Result<(), Failed>
+        ensures call { Spoke (Unit {0}) bytes.now (mem_state self.old) (mem_state self.new) result }
+        ensures cause { FailsAsListed self.old self.new result }
+        ensures part { SaysAsListed bytes.now self.old self.new }
+    {
+        let failed = past::part_of(&self.fails, self.calls.len() as u64);
+        if !past::utter(&mut self.calls, &mut self.said, bytes, failed, self.counts) {
+            self.starved = self.starved.saturating_add(1);
+            self.counts = counts::raise_out(self.counts);
+            return Err(Failed);
+        }
+        match failed {
+            None => Ok(()),
+            Some(_) => {
+                self.counts = counts::raise_out(self.counts);
+                Err(Failed)
+            }
+        }
+    }
+
+    ghost lawful = { λ _ m. mem_lawful m };
 }

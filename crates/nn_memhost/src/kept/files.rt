@@ -4,7 +4,8 @@ ghost use Rattle.std.specs.List.{position_or_len};
 ghost use Rattle.nn_base.specs.Names.{sub_eq, file_eq};
 ghost use Rattle.nn_base.specs.declared.sub.Sub.{Sub as S};
 ghost use Rattle.nn_base.specs.declared.file_name.FileName.{FileName as N};
-ghost use Rattle.nn_memhost.specs.Content.{synced_content, grown};
+ghost use Rattle.nn_host.specs.Listing.{IsRead};
+ghost use Rattle.nn_memhost.specs.Content.{Content, synced_content, grown, shown_of};
 ghost use Rattle.nn_memhost.specs.Kept.{content_of, placed_of, fits, content_at};
 
 use crate::kept::file::KeptFile;
@@ -51,6 +52,48 @@ pub fn has(files: &[KeptFile], sub: Sub, name: &FileName) -> bool
         }
     }
     false
+}
+
+/// How many bytes the file of this name has; 0 where it isn't there.
+pub fn size(files: &[KeptFile], sub: Sub, name: &FileName) -> u64
+    ensures { result ≡ length (shown_of (content_at files.now sub name.now)) }
+{
+    for file in files {
+        if is_at(file, sub, name) {
+            return file.bytes.len() as u64;
+        }
+    }
+    0
+}
+
+/// Reads the bytes of the file of this name from `at` on, and says how many.
+pub fn read_at(files: &[KeptFile], sub: Sub, name: &FileName, at: u64, out: &mut [u8]) -> usize
+    ensures within { result ≤ length out.old }
+    ensures value { IsRead (option_map (λ (c : Content). c.bytes) (content_at files.now sub name.now)) at result out.old out.new }
+{
+    let k = place_of(files, sub, name);
+    if k >= files.len() {
+        return 0;
+    }
+    let file = &files[k];
+    copy_from(&file.bytes, at, out)
+}
+
+// Copies bytes from `at` on to the front of `out`, and says how many.
+fn copy_from(bytes: &[u8], at: u64, out: &mut [u8]) -> usize
+    ensures within { result ≤ length out.old }
+    ensures value { IsRead (Some bytes.now) at result out.old out.new }
+{
+    let Ok(at) = usize::try_from(at) else {
+        return 0;
+    };
+    if at >= bytes.len() {
+        return 0;
+    }
+    let rest = &bytes[at..];
+    let n = rest.len().min(out.len());
+    out[..n].copy_from_slice(&rest[..n]);
+    n
 }
 
 /// Puts this file in the place of the one of its name, or behind the others.
