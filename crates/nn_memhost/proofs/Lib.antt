@@ -1,5 +1,11 @@
-pub mod KeptLemmas
+pub mod FilesLemmas
+pub mod EditLemmas
+pub mod HeldLemmas
+pub mod DirsLemmas
+pub mod ViewLemmas
 pub mod PastLemmas
 pub mod Calls
-pub mod Saying
+pub mod Hosts
 pub mod Anew
+pub mod Saying
+pub mod Looks

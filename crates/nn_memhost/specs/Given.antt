@@ -1,11 +1,14 @@
 -- What is given to a host in memory: contents that count as synced, with which the record of calls begins anew.
-use Rattle.std.specs.Prelude.{◌≡◌, ◌≢◌, ℕ, true, false, List, [], Some, None, if◌then◌else◌}
+use Rattle.std.specs.Prelude.{◌≡◌, ◌≢◌, ℕ, Bool, true, false, List, [], Some, None, if◌then◌else◌}
 use Rattle.nn_base.specs.declared.sub.Sub.{Sub}
 use Rattle.nn_base.specs.declared.file_name.FileName.{FileName}
 use Rattle.nn_base.specs.Names.{sub_eq}
-use Rattle.nn_host.specs.Disk.{Reads, with_file}
+use Rattle.nn_host.specs.Disk.{Disk, Reads, certain, with_file}
 use Rattle.nn_host.specs.Moments.{State, disk_at, faults_at}
-use Rattle.nn_memhost.specs.Past.{all_certain}
+
+-- a disk whose files, as they read, a stop keeps
+abbrev pub all_certain : Reads → Disk
+all_certain r = record { root = r.root; has = r.has; file = λ s n. certain (r.file s n) }
 
 -- the same with this file; its root and its subfolder are there
 abbrev pub with_given : Sub → FileName → List ℕ → Reads → Reads
@@ -16,8 +19,8 @@ with_given s n bytes r = record {
 }
 
 -- no root, and so nothing else
-abbrev pub rootless : Reads
-rootless = record { root = false; has = λ s. false; file = λ s n. None }
+abbrev pub no_reads : Reads
+no_reads = record { root = false; has = λ s. false; file = λ s n. None }
 
 -- directory i now reads so, the others as before, all counts as synced, and the record begins anew; the counts of faults stay
 pub record Anew (i : ℕ) (r : Reads) (old new : State) : Type 0 where

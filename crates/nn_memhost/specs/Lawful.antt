@@ -1,57 +1,52 @@
--- A host in memory is lawful.
-use Rattle.std.proofs.Common.{◌≡◌, ℕ, zero, suc, List, [], ◌∷◌, Option, Some, None, refl, sym, ◌∙◌, subst}
-use Rattle.std.specs.Prelude.{take}
-use Rattle.nn_host.specs.Disk.{Disk, Reads, Leaves, IsSound, certain}
-use Rattle.nn_host.proofs.LeavesLemmas.{leaves_certain}
+-- A host in memory is lawful: its disks are sound, and what reads is what a stop may leave.
+use Rattle.std.specs.Prelude.{◌≡◌, ◌≤◌, ◌-◌, ℕ, zero, suc, Bool, true, false, List, [], ◌∷◌, ◌++◌, length, take, drop, map, Option, Some, None, option_map, if◌then◌else◌, refl}
+use Rattle.std.proofs.Common.{sym, ◌∙◌, ap, subst}
+use Rattle.std.proofs.lemmas.List.{take-append-drop, length-drop}
+use Rattle.nn_base.specs.declared.sub.Sub.{Sub}
+use Rattle.nn_base.specs.declared.file_name.FileName.{FileName}
+use Rattle.nn_host.specs.Disk.{Held, IsSound, Leaves, LeavesFile, Torn}
 use Rattle.nn_host.specs.Moments.{IsLawful}
+use Rattle.nn_memhost.specs.declared.kept.file.KeptFile.{KeptFile}
 use Rattle.nn_memhost.specs.declared.kept.KeptDir.{KeptDir}
 use Rattle.nn_memhost.specs.declared.mem.MemHost.{MemHost}
-use Rattle.nn_memhost.specs.declared.counts.Counts.{Counts}
-use Rattle.nn_memhost.specs.declared.past.Logged.{Logged}
-use Rattle.nn_memhost.specs.declared.past.Request.{Request}
-use Rattle.nn_memhost.specs.declared.past.Request.TheVariants.{On, Say}
-use Rattle.nn_memhost.specs.declared.past.Part.{Part}
-use Rattle.nn_memhost.specs.Past.{Past, Standing, reads_at, all_certain, after, one, start, run}
-use Rattle.nn_memhost.specs.Mem.{start_of, mem_state}
+use Rattle.nn_memhost.specs.Content.{Content, file_of}
+use Rattle.nn_memhost.specs.Kept.{content_of, placed_of, fits, find_in, content_at}
+use Rattle.nn_memhost.specs.Held.{held_of, disk_of, reads_of, bare}
+use Rattle.nn_memhost.specs.Past.{kept_at}
+use Rattle.nn_memhost.specs.Mem.{past_of, mem_state}
 
-same_reads : (request : Request) (failed : Option Part) (now : Standing) → (after request failed now).reads ≡ now.reads
-same_reads (On i asked) failed now = refl
-same_reads (Say bytes) failed now = refl
+torn : (f : KeptFile) → Torn (file_of (content_of f)) (content_of f).bytes
+torn f = record {
+  tail = drop f.synced f.bytes.items;
+  split = sym (take-append-drop f.synced f.bytes.items);
+  short = subst (λ (n : ℕ). n ≤ length f.pending.items) (sym (length-drop f.synced f.bytes.items)) f.handed;
+}
 
-same_disks : (request : Request) (failed : Option Part) (now : Standing) → (after request failed now).disks ≡ now.disks
-same_disks (On i asked) failed now = refl
-same_disks (Say bytes) failed now = refl
+leaves_either : (b : Bool) (f : KeptFile) (rest : Option Content) → LeavesFile (option_map file_of rest) (option_map (λ (c : Content). c.bytes) rest)
+    → LeavesFile (option_map file_of (if b then Some (content_of f) else rest)) (option_map (λ (c : Content). c.bytes) (if b then Some (content_of f) else rest))
+leaves_either true f rest h = torn f
+leaves_either false f rest h = h
 
--- looks and what is said change no directory
-pub run_reads : (p : Past) (es : List Logged) → (run p es).now.reads ≡ p.now.reads
-run_reads p [] = refl
-run_reads p (e ∷ es) = run_reads (one p e) es ∙ same_reads e.request e.failed p.now
+leaves_at : (fs : List KeptFile) (s : Sub) (n : FileName) → LeavesFile (option_map file_of (content_at fs s n)) (option_map (λ (c : Content). c.bytes) (content_at fs s n))
+leaves_at [] s n = tt
+leaves_at (f ∷ fs) s n = leaves_either (fits s n (placed_of f)) f (content_at fs s n) (leaves_at fs s n)
 
-pub run_disks : (p : Past) (es : List Logged) → (run p es).now.disks ≡ p.now.disks
-run_disks p [] = refl
-run_disks p (e ∷ es) = run_disks (one p e) es ∙ same_disks e.request e.failed p.now
+none_mapped : {A B : Type 0} (f : A → B) (x : Option A) → x ≡ None → option_map f x ≡ None
+none_mapped f x e = ap (λ (y : Option _). option_map f y) e
 
-leaves_all : (r : Reads) → Leaves (all_certain r) r
-leaves_all r = record { root = refl; subs = λ s. refl; files = λ s n. leaves_certain (r.file s n) }
+-- what a kept directory holds is lawful
+pub sound_dir : (ds : List KeptDir) (j : ℕ) → IsSound (disk_of (kept_at ds j))
+sound_dir [] j = record { subs = λ s gone. refl; files = λ s n gone. refl }
+sound_dir (d ∷ ds) zero = record { subs = d.rooted; files = λ s n gone. none_mapped file_of (content_at d.files.items s n) (d.housed s n gone) }
+sound_dir (d ∷ ds) (suc j) = sound_dir ds j
 
--- what reads is what a stop may leave, throughout a record of looks
-pub fine_run : (dirs : List KeptDir) (said : List ℕ) (counts : Counts) (es : List Logged) (j : ℕ) → Leaves ((run (start dirs said counts) es).now.disks j) ((run (start dirs said counts) es).now.reads j)
-fine_run dirs said counts es j =
-    subst (λ (d : ℕ → Disk). Leaves (d j) ((run (start dirs said counts) es).now.reads j)) (sym (run_disks (start dirs said counts) es))
-    (subst (λ (r : ℕ → Reads). Leaves (all_certain (reads_at dirs j)) (r j)) (sym (run_reads (start dirs said counts) es)) (leaves_all (reads_at dirs j)))
-
-none_certain : (w : Option (List ℕ)) → w ≡ None → certain w ≡ None
-none_certain None e = refl
-none_certain (Some bytes) e = cc
-
--- the contents of a directory that is kept are sound
-sound_at : (ds : List KeptDir) (j : ℕ) → IsSound (all_certain (reads_at ds j))
-sound_at [] j = record { subs = λ s gone. refl; files = λ s n gone. refl }
-sound_at (d ∷ ds) zero = record { subs = d.rooted; files = λ s n gone. none_certain _ (d.housed s n gone) }
-sound_at (d ∷ ds) (suc j) = sound_at ds j
+pub leaves_dir : (ds : List KeptDir) (j : ℕ) → Leaves (disk_of (kept_at ds j)) (reads_of (kept_at ds j))
+leaves_dir [] j = record { root = refl; subs = λ s. refl; files = λ s n. tt }
+leaves_dir (d ∷ ds) zero = record { root = refl; subs = λ s. refl; files = leaves_at d.files.items }
+leaves_dir (d ∷ ds) (suc j) = leaves_dir ds j
 
 pub mem_lawful : (m : MemHost) → IsLawful (mem_state m)
 mem_lawful m = record {
-  disks = λ j. subst (λ (d : ℕ → Disk). IsSound (d j)) (sym (run_disks (start_of m) m.calls.items)) (sound_at m.dirs.items j);
-  reads = λ j. fine_run m.dirs.items (take m.said_before m.said.items) m.began m.calls.items j;
+  disks = λ j. subst (λ (h : Held Content). IsSound (disk_of h)) (sym (m.tied j)) (sound_dir m.dirs.items j);
+  reads = λ j. subst (λ (h : Held Content). Leaves (disk_of h) (reads_of h)) (sym (m.tied j)) (leaves_dir m.dirs.items j);
 }

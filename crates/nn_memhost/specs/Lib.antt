@@ -1,7 +1,11 @@
-pub mod Counts
+pub mod Content
 pub mod Kept
+pub mod Counts
 pub mod Part
+pub mod Held
+pub mod Asked
 pub mod Past
+pub mod Base
 pub mod Given
 pub mod Mem
 pub mod Lawful

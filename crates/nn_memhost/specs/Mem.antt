@@ -1,20 +1,27 @@
 -- What a host in memory means, and which of its calls fail.
-use Rattle.std.specs.Prelude.{◌≡◌, ◌⊎◌, ◌<◌, ℕ, List, [], ◌++◌, take, length, Option, None, Result, OnOk, OnErr, IsSome}
+use Rattle.std.specs.Prelude.{◌≡◌, ◌⊎◌, ◌<◌, ℕ, List, [], ◌++◌, take, length, Option, Some, None, Result, OnOk, OnErr, IsSome}
+use Rattle.nn_host.specs.Disk.{Call}
 use Rattle.nn_host.specs.Moments.{Moment, State, moment}
 use Rattle.nn_host.specs.Calls.{next_count}
 use Rattle.nn_memhost.specs.declared.past.Part.{Part}
 use Rattle.nn_memhost.specs.declared.mem.MemHost.{MemHost}
+use Rattle.nn_memhost.specs.Base.{base_of}
 use Rattle.nn_memhost.specs.Counts.{no_faults}
+use Rattle.nn_memhost.specs.Held.{bare, reads_of, kept_left}
 use Rattle.nn_memhost.specs.Part.{part_at, taken_of}
-use Rattle.nn_memhost.specs.Past.{Past, start, run, state_of, moment_of, bare, all_certain}
+use Rattle.nn_memhost.specs.Past.{Past, kept_at, start, run, state_of, moment_of}
 
 -- where the record of calls begins: the contents, what was said and the counts as of then
 abbrev pub start_of : MemHost → Past
-start_of m = start m.dirs.items (take m.said_before m.said.items) m.began
+start_of m = start (kept_at (base_of m.base m.dirs.items)) (take m.said_before m.said.items) m.began
+
+-- what the record of calls comes to
+abbrev pub past_of : MemHost → Past
+past_of m = run (start_of m) m.calls.items
 
 -- the record of calls, over the contents at its beginning
 abbrev pub mem_state : MemHost → State
-mem_state m = state_of (run (start_of m) m.calls.items) m.counts (length m.dirs.items)
+mem_state m = state_of (past_of m) m.counts (length m.dirs.items)
 
 -- what the list says that the next call leaves, if it names it
 abbrev pub next_part : MemHost → Option Part
@@ -23,8 +30,8 @@ next_part m = part_at (length m.calls.items) m.fails.items
 -- a host of so many directories with all roots, nothing in them and no faults
 abbrev pub new_state : ℕ → State
 new_state count =
-    let now : Moment = moment_of (record { disks = λ j. all_certain bare; reads = λ j. bare; said = [] }) no_faults in
-    record { now = now; ended = now; reads = λ j. bare; count = count; trace = [] }
+    let now : Moment = moment_of (record { kept = λ j. bare; said = [] }) no_faults in
+    record { now = now; ended = now; reads = λ j. reads_of bare; count = count; trace = [] }
 
 -- the call failed exactly where the list names it, or where there was no memory for it; the count of the latter stays at its last value
 pub record FailsAsListed {T E : Type 0} (old new : MemHost) (result : Result T E) : Type 0 where

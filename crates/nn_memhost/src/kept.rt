@@ -1,21 +1,16 @@
 // A name directory as it is kept in memory.
-ghost use Rattle.std.specs.Prelude.{◌≡◌, ℕ, ◌<◌, ◌≤◌, [], true, false, Some, None, is_some, is_none, OnOk, OnErr, IfOk, if◌then◌else◌, ◌&&◌, length, slice_index_or};
-ghost use Rattle.std.specs.List.{position_or_len};
-ghost use Rattle.nn_base.specs.Names.{sub_eq, sub_code, file_eq};
+mod file;
+pub mod files;
+
+ghost use Rattle.std.specs.Prelude.{◌≡◌, ℕ, ◌+◌, ◌≤◌, ◌<◌, ◌++◌, true, false, Some, None, OnOk, OnErr, IfOk, is_some, length, if◌then◌else◌};
+ghost use Rattle.nn_base.specs.Names.{sub_eq, sub_code};
 ghost use Rattle.nn_base.specs.declared.sub.Sub.{Sub as S};
 ghost use Rattle.nn_base.specs.declared.file_name.FileName.{FileName as N};
-ghost use Rattle.nn_memhost.specs.Kept.{fits, bytes_at, has_flag};
+ghost use Rattle.nn_memhost.specs.Kept.{content_at, has_flag};
 
+use crate::kept::file::KeptFile;
 use nn_base::{FileName, NoMemory, Sub};
 use std::alloc::Global;
-
-/// A file, and its bytes as they read.
-#[derive(Drop)]
-pub struct KeptFile {
-    pub sub: Sub,
-    pub name: FileName,
-    pub bytes: Vec<u8>,
-}
 
 /// A directory: whether its root is there, which of its subfolders are, by their places, and the files in them.
 #[derive(Drop)]
@@ -24,7 +19,7 @@ pub struct KeptDir {
     pub subs: [bool; 7],
     pub files: Vec<KeptFile>,
     ghost rooted: { (s : S) → root ≡ false → has_flag subs s ≡ false },
-    ghost housed: { (s : S) (n : N) → has_flag subs s ≡ false → bytes_at files.items s n ≡ None },
+    ghost housed: { (s : S) (n : N) → has_flag subs s ≡ false → content_at files.items s n ≡ None },
 }
 
 // A place of its own for each subfolder.
@@ -49,75 +44,20 @@ pub fn has_sub(subs: &[bool; 7], sub: Sub) -> bool
     subs[place(sub)]
 }
 
-fn same_sub(a: Sub, b: Sub) -> bool
-    ensures { result ≡ sub_eq a b }
+fn set_flag(subs: &mut [bool; 7], sub: Sub, there: bool)
+    ensures { (s : S) → has_flag subs.new s ≡ (if sub_eq s sub then there else has_flag subs.old s) }
 {
-    a == b
-}
-
-fn same_name(a: &FileName, b: &FileName) -> bool
-    ensures { result ≡ file_eq a.now b.now }
-{
-    *a == *b
-}
-
-fn is_at(file: &KeptFile, sub: Sub, name: &FileName) -> bool
-    ensures { result ≡ fits sub name.now file.now }
-{
-    same_sub(sub, file.sub) && same_name(name, &file.name)
-}
-
-pub fn has_file(files: &[KeptFile], sub: Sub, name: &FileName) -> bool
-    ensures { result ≡ is_some (bytes_at files.now sub name.now) }
-{
-    for file in files {
-        if is_at(file, sub, name) {
-            return true;
-        }
-    }
-    false
-}
-
-// Where the file of this name stands, or how many there are.
-fn place_of(files: &[KeptFile], sub: Sub, name: &FileName) -> usize
-    ensures { result ≡ position_or_len (fits sub name.now) files.now }
-{
-    for (k, file) in files.iter().enumerate() {
-        if is_at(file, sub, name) {
-            return k;
-        }
-    }
-    files.len()
-}
-
-// Gives the file of this name these bytes; a file that isn't there is made.
-fn put(files: &mut Vec<KeptFile>, sub: Sub, name: FileName, bytes: Vec<u8>) -> Result<(), NoMemory>
-    ensures ok { OnOk result ((q : S) (m : N) → bytes_at files.new.items q m ≡ (if sub_eq q sub && file_eq m name then Some bytes.items else bytes_at files.old.items q m)) }
-    ensures err { OnErr result (files.new.items ≡ files.old.items) }
-{
-    let k = place_of(files, sub, &name);
-    if k < files.len() {
-        let file = &mut files[k];
-        file.bytes = bytes;
-        return Ok(());
-    }
-    files.push(KeptFile { sub, name, bytes })?;
-    Ok(())
-}
-
-fn set_flag(subs: &mut [bool; 7], sub: Sub)
-    ensures { (s : S) → has_flag subs.new s ≡ (if sub_eq s sub then true else has_flag subs.old s) }
-{
-    subs[place(sub)] = true;
+    subs[place(sub)] = there;
 }
 
 impl KeptDir {
-    ghost use Rattle.nn_memhost.specs.Past.{reads_of, bare};
-    ghost use Rattle.nn_memhost.specs.Given.{with_given, rootless};
+    ghost use Rattle.std.specs.Prelude.{not, option_map};
+    ghost use Rattle.nn_host.specs.Disk.{MakeSub, MakeFile, Append, Sync, RenameFile, RenameSub, RemoveFile, RemoveSub, Settle};
+    ghost use Rattle.nn_memhost.specs.Held.{held_of, bare, kept_after, given, rootless, written, settled};
 
     /// A directory with a root and nothing in it.
     pub fn bare(alloc: Global) -> KeptDir
-        ensures { reads_of result ≡ bare }
+        ensures { held_of result ≡ bare }
     {
         KeptDir {
             root: true,
@@ -126,23 +66,111 @@ impl KeptDir {
         }
     }
 
-    /// Gives the file of this name these bytes; its root, its subfolder and the file are made where they are not there.
-    pub fn give(&mut self, sub: Sub, name: FileName, bytes: Vec<u8>) -> Result<(), NoMemory>
-        ensures ok { OnOk result (reads_of self.new ≡ with_given sub name bytes.items (reads_of self.old)) }
-        ensures err { OnErr result (reads_of self.new ≡ reads_of self.old) }
+    pub fn make_sub(&mut self, sub: Sub)
+        ensures { held_of self.new ≡ kept_after (MakeSub sub) (held_of self.old) }
     {
-        put(&mut self.files, sub, name, bytes)?;
+        if self.root && !has_sub(&self.subs, sub) {
+            set_flag(&mut self.subs, sub, true);
+        }
+    }
+
+    pub fn remove_sub(&mut self, sub: Sub)
+        ensures { held_of self.new ≡ kept_after (RemoveSub sub) (held_of self.old) }
+    {
+        set_flag(&mut self.subs, sub, false);
+        files::remove_all(&mut self.files, sub);
+    }
+
+    pub fn remove_file(&mut self, sub: Sub, name: &FileName)
+        ensures { held_of self.new ≡ kept_after (RemoveFile sub name.now) (held_of self.old) }
+    {
+        files::remove(&mut self.files, sub, name);
+    }
+
+    pub fn make_file(&mut self, alloc: Global, sub: Sub, name: FileName) -> Result<(), NoMemory>
+        ensures ok { OnOk result (held_of self.new ≡ kept_after (MakeFile sub name) (held_of self.old)) }
+        ensures err { OnErr result (held_of self.new ≡ held_of self.old) }
+    {
+        if !has_sub(&self.subs, sub) {
+            return Ok(());
+        }
+        files::put(&mut self.files, KeptFile::fresh(alloc, sub, name))
+    }
+
+    /// Hands bytes to a file, of which the first are written.
+    pub fn append(&mut self, sub: Sub, name: &FileName, bytes: &[u8], count: usize) -> Result<(), NoMemory>
+        requires { count ≤ length bytes.now }
+        ensures ok { OnOk result (held_of self.new ≡ written count sub name.now bytes.now (held_of self.old)) }
+        ensures err { OnErr result (held_of self.new ≡ held_of self.old) }
+    {
+        files::grow(&mut self.files, sub, name, bytes, count)
+    }
+
+    pub fn sync(&mut self, sub: Sub, name: &FileName)
+        ensures { held_of self.new ≡ kept_after (Sync sub name.now) (held_of self.old) }
+    {
+        files::sync(&mut self.files, sub, name);
+    }
+
+    pub fn settle(&mut self)
+        ensures { held_of self.new ≡ settled (held_of self.old) }
+    {
+        files::sync_all(&mut self.files);
+    }
+
+    pub fn rename_sub(&mut self, from: Sub, to: Sub)
+        ensures { held_of self.new ≡ kept_after (RenameSub from to) (held_of self.old) }
+    {
+        if has_sub(&self.subs, from) && !has_sub(&self.subs, to) {
+            files::move_all(&mut self.files, from, to);
+            set_flag(&mut self.subs, from, false);
+            set_flag(&mut self.subs, to, true);
+        }
+    }
+
+    pub fn rename_file(&mut self, sub: Sub, from: &FileName, to: &FileName)
+        ensures { held_of self.new ≡ kept_after (RenameFile sub from.now to.now) (held_of self.old) }
+    {
+        if files::same_name(from, to) {
+            return;
+        }
+        if files::has(&self.files, sub, from) {
+            files::remove(&mut self.files, sub, to);
+            files::rename(&mut self.files, sub, from, to);
+        }
+    }
+
+    /// Gives the file of this name these bytes, synced; its root, its subfolder and the file are made where they are
+    /// not there.
+    pub fn give(&mut self, sub: Sub, name: FileName, bytes: Vec<u8>) -> Result<(), NoMemory>
+        ensures ok { OnOk result (held_of self.new ≡ given sub name bytes.items (held_of self.old)) }
+        ensures err { OnErr result (held_of self.new ≡ held_of self.old) }
+    {
+        files::put(&mut self.files, KeptFile::synced(sub, name, bytes))?;
         self.root = true;
-        set_flag(&mut self.subs, sub);
+        set_flag(&mut self.subs, sub, true);
         Ok(())
     }
 
     /// Takes the root away, with all that is in it.
     pub fn unroot(&mut self)
-        ensures { reads_of self.new ≡ rootless }
+        ensures { held_of self.new ≡ rootless }
     {
         self.root = false;
         self.subs = [false; 7];
         self.files.clear();
+    }
+
+    /// A copy of it.
+    pub fn copy_of(&self, alloc: Global) -> Result<KeptDir, NoMemory>
+        ensures { IfOk result (λ copy. held_of copy ≡ held_of self.now) }
+    {
+        let files = files::copy_all(alloc, &self.files)?;
+        let subs = self.subs;
+        Ok(KeptDir {
+            root: self.root,
+            subs,
+            files,
+        })
     }
 }

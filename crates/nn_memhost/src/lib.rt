@@ -2,7 +2,9 @@
 //! It knows nothing of real folders, nor of what the files mean.
 #![tactic(auto)]
 
+mod asked;
 mod counts;
+mod dirs;
 mod kept;
 mod mem;
 mod past;

@@ -3,6 +3,7 @@ ghost use Rattle.std.specs.Prelude.{◌≡◌, ◌≤◌, ◌++◌, ◌∷◌, [
 ghost use Rattle.nn_memhost.specs.Part.{part_at, taken_of};
 ghost use Rattle.nn_memhost.specs.Past.{NotedSaying};
 
+use crate::asked::Asked;
 use crate::counts::Counts;
 use nn_base::DirNo;
 
@@ -15,12 +16,6 @@ pub enum Part {
     Half,
     /// All of it was done.
     All,
-}
-
-/// What was asked of a directory.
-#[derive(Clone, Copy)]
-pub enum Asked {
-    Look,
 }
 
 /// What was asked, of a directory or of the output.

@@ -1,23 +1,26 @@
-use Rattle.nn_memhost.proofs.Calls.{done_in, failed_in, still_said}
+use Rattle.std.proofs.Common.{◌≡◌, ◌∙◌, ap, sym, length}
+use Rattle.std.specs.Prelude.{slice_index}
+use Rattle.nn_host.specs.Calls.{next_count}
+use Rattle.nn_memhost.specs.declared.counts.Counts.{Counts}
+use Rattle.nn_memhost.specs.Counts.{raised}
+use Rattle.nn_memhost.specs.Past.{one}
+use Rattle.nn_memhost.specs.Mem.{past_of}
+use Rattle.nn_memhost.specs.Lawful.{mem_lawful}
+use Rattle.nn_memhost.proofs.Calls.{asking, done_in, failed_in, on_ok}
 use Rattle.nn_memhost.proofs.mem.MemHost.ask.Goals as goal
 
-pub invariant_of-self-in-None : goal.invariant_of-self-in-None
-invariant_of-self-in-None c = record {
-  few = c.args.self.now.few;
-  earlier = c.args.self.now.earlier;
-  spoken = still_said c.args.self.now c.args.i c.args.asked c.part_of-failed.result c.keep.new.calls.items (c.keep.ensures.kept c.if-not-keep.false);
-}
-
-pub invariant_of-self-in-Some : goal.invariant_of-self-in-Some
-invariant_of-self-in-Some c = record {
-  few = c.args.self.now.few;
-  earlier = c.args.self.now.earlier;
-  spoken = still_said c.args.self.now c.args.i c.args.asked c.part_of-failed.result c.keep.new.calls.items (c.keep.ensures.kept c.if-not-keep.false);
-}
-
 pub returns-in-None-clause-call : goal.returns-in-None-clause-call
-returns-in-None-clause-call c = done_in c.args.self.now c.args.i c.args.asked (tt {0}) c.part_of-failed.result c.keep.new.calls.items c.in-None.is (c.keep.ensures.kept c.if-not-keep.false)
+returns-in-None-clause-call c =
+    let m = c.args.self.now in
+    done_in m c.args.i c.args.asked (past_of c.perform.new.self) (length c.perform.new.self.dirs.items) c.perform.ensures.count (tt {0}) c.perform.new.self.counts
+    (on_ok c.perform.result (sym c.is_err.ensures.value ∙ c.if-is_err.false) c.perform.ensures.ok ∙ (λ k. one (past_of m) (asking c.args.i c.args.asked (c.in-None.is k) m.counts)))
+    c.perform.ensures.counts
 
 pub returns-in-Some-clause-call : goal.returns-in-Some-clause-call
 returns-in-Some-clause-call c =
-    failed_in c.args.self.now c.args.i c.args.asked (record {}) c.in-Some.field-0 c.part_of-failed.result c.keep.new.calls.items c.raise-self-in-Some.result c.in-Some.is (c.keep.ensures.kept c.if-not-keep.false) c.raise-self-in-Some.ensures.value c.raise-self-in-Some.ensures.here
+    let m = c.args.self.now in
+    failed_in m c.args.i c.args.asked (past_of c.perform.new.self) (length c.perform.new.self.dirs.items) c.perform.ensures.count c.in-Some.field-0 (record {}) c.raise-self-in-Some.result
+    (on_ok c.perform.result (sym c.is_err.ensures.value ∙ c.if-is_err.false) c.perform.ensures.ok ∙ (λ k. one (past_of m) (asking c.args.i c.args.asked (c.in-Some.is k) m.counts)))
+    (c.raise-self-in-Some.ensures.value ∙ ap (λ (counts : Counts). raised c.args.i.0 counts) c.perform.ensures.counts)
+    (c.raise-self-in-Some.ensures.here ∙ ap (λ (counts : Counts). next_count (slice_index counts.dirs c.args.i.0)) c.perform.ensures.counts)
+    ((mem_lawful c.perform.new.self).reads c.args.i.0)

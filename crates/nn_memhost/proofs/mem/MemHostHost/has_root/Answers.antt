@@ -1,6 +1,9 @@
-use Rattle.std.proofs.Common.{ap}
+use Rattle.std.proofs.Common.{◌≡◌, ◌∙◌, ap, is_some, length}
 use Rattle.nn_host.specs.Disk.{Reads}
-use Rattle.nn_memhost.proofs.PastLemmas.{reads_is}
+use Rattle.nn_host.specs.Listing.{bytes_of}
+use Rattle.nn_memhost.specs.Content.{shown_of}
+use Rattle.nn_memhost.specs.Kept.{content_at}
+use Rattle.nn_memhost.proofs.Looks.{reads_is, some_shown, shown}
 use Rattle.nn_memhost.proofs.mem.MemHostHost.has_root.Goals as goal
 
 pub returns-clause-value : goal.returns-clause-value

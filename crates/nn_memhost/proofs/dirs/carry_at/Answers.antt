@@ -1,0 +1,18 @@
+use Rattle.std.proofs.Common.{◌≡◌, ◌∙◌, ap, sym, ℕ, length, arith}
+use Rattle.std.proofs.lemmas.Result.{on_ok_weaker, on_err_weaker}
+use Rattle.nn_host.specs.Disk.{Held}
+use Rattle.nn_memhost.specs.Asked.{call_of}
+use Rattle.nn_memhost.specs.Content.{Content}
+use Rattle.nn_memhost.specs.Held.{kept_left, given, rootless}
+use Rattle.nn_memhost.proofs.DirsLemmas.{kept_at-set, kept_at-same}
+use Rattle.nn_memhost.proofs.dirs.carry_at.Goals as goal
+
+pub returns-clause-ok : goal.returns-clause-ok
+returns-clause-ok c = on_ok_weaker c.carry.result
+    (λ is. kept_at-set c.args.dirs.now.items c.args.i.0 c.index_mut-dir.result.now c.carry.new.dir (λ (h : Held Content). kept_left c.args.failed (call_of c.args.asked.now) h) c.requires c.index_mut-dir.ensures.value is)
+    c.carry.ensures.ok
+
+pub returns-clause-err : goal.returns-clause-err
+returns-clause-err c = on_err_weaker c.carry.result
+    (λ is. kept_at-same c.args.dirs.now.items c.args.i.0 c.index_mut-dir.result.now c.carry.new.dir c.requires c.index_mut-dir.ensures.value is)
+    c.carry.ensures.err

@@ -1,0 +1,7 @@
+use Rattle.std.proofs.Common.{◌≡◌, map}
+use Rattle.nn_memhost.specs.Kept.{placed_of}
+use Rattle.nn_memhost.proofs.FilesLemmas.{mapped, renamed}
+use Rattle.nn_memhost.proofs.kept.files.rename.Given as goal
+
+abbrev pub invariant-files : goal.invariant-files
+invariant-files l = map placed_of l.files.items ≡ mapped (renamed l.sub l.from l.to) l.k (map placed_of l.initial.files.items)

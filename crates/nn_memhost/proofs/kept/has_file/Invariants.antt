@@ -1,6 +1,0 @@
-use Rattle.std.proofs.Common.{◌≡◌, is_some, drop}
-use Rattle.nn_memhost.specs.Kept.{bytes_at}
-use Rattle.nn_memhost.proofs.kept.has_file.Given as goal
-
-abbrev pub invariant-loop-file : goal.invariant-loop-file
-invariant-loop-file l = is_some (bytes_at l.files l.sub l.name) ≡ is_some (bytes_at (drop l.file-index l.files) l.sub l.name)
