@@ -60,6 +60,7 @@ pub fn read_all<H: Host>(
     ensures above { IfErr result (λ fault. (size : ℕ) → fault ≡ ReadAll.TooLarge size → limit < size) }
     ensures kept { Looked H.told i.0 (H.state host.old) (H.state host.new) (answered result) }
 {
+    // Lent, since it is passed more than once.
     let file = &name;
     if !host.has_file(i, sub, *file)? {
         return Err(ReadAll::Absent);

@@ -27,10 +27,11 @@ pub fn write_small<H: Host>(
     ensures any_moment { OnlyAt H.told i.0 (H.state host.old) (H.state host.new) (OldOrNew sub tmp name bytes.now (disk_at (H.state host.old) i.0)) }
     ensures cause { IsCounted i.0 (H.state host.old) (H.state host.new) result }
 {
-    let staged = &tmp;
-    host.make_file(i, sub, *staged)?;
-    host.append(i, sub, *staged, bytes)?;
+    // Lent, since each is passed more than once.
+    let (from, to) = (&tmp, &name);
+    host.make_file(i, sub, *from)?;
+    host.append(i, sub, *from, bytes)?;
     // The file gets its name only once its bytes last: the name stands for whole contents.
-    host.sync(i, sub, *staged)?;
-    host.rename_file(i, sub, *staged, name)
+    host.sync(i, sub, *from)?;
+    host.rename_file(i, sub, *from, *to)
 }
