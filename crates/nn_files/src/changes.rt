@@ -24,7 +24,10 @@ impl<'a, R: Files> Place<'a, R> {
             return Ok(());
         }
         let path = self.file_path(sub, name)?;
-        if self.found(path.as_str())?.is_some_and(|thing| !thing.is_file()) {
+        if self
+            .found(path.as_str())?
+            .is_some_and(|thing| !thing.is_file())
+        {
             return Err(ErrorKind::AlreadyExists.into());
         }
         // A file that was emptied has to stay empty, so its length is synced too.

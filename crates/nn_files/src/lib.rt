@@ -8,5 +8,7 @@ mod listing;
 mod looks;
 mod paths;
 mod segment;
+#[cfg(test)]
+mod tests;
 
 pub use host::FileHost;

@@ -68,12 +68,7 @@ impl<'a, R: Files> Place<'a, R> {
     }
 
     // Each text of a chunk ends with a zero byte.
-    fn add_chunk(
-        &self,
-        sub: Sub,
-        chunk: &[u8],
-        names: &mut Vec<FileName>,
-    ) -> Result<(), Unlisted> {
+    fn add_chunk(&self, sub: Sub, chunk: &[u8], names: &mut Vec<FileName>) -> Result<(), Unlisted> {
         'texts: for text in chunk.split(|byte| *byte == 0) {
             self.add_name(sub, text, names)?;
         }

@@ -1,0 +1,66 @@
+#!/bin/sh
+# Runs the tests of the host over real folders under strace, keeps their changes and syncs in docs/SYNCS.md, and fails
+# where a changed name isn't followed by the sync of the folder that holds it.
+set -eu
+cd "$(dirname "$0")/.."
+if ! command -v strace > /dev/null; then
+    echo 'strace is not installed: nothing was traced'
+    exit 0
+fi
+place=$(mktemp -d)
+trap 'rm -rf "$place"' EXIT
+
+calls=mkdir,openat,write,fsync,fdatasync,rename,unlink,unlinkat,rmdir
+(cd crates/nn_files && strace -ff -y -qq -e trace=$calls -o "$place/trace" rt try --test) > "$place/out" 2>&1 || {
+    cat "$place/out"
+    exit 1
+}
+
+# The process of the test of changes, by the folder that it made.
+made='^mkdir("\([^"]*/nn_files_changes_[0-9]*\)".*'
+traced=$(grep -l "$made" "$place"/trace.* | head -n 1)
+root=$(sed -n "s|$made|\1|p" "$traced" | head -n 1)
+
+# Its changes and syncs, with paths from that folder on.
+grep -F "$root" "$traced" \
+    | grep -E '^(mkdir|write|fsync|fdatasync|rename|unlink|unlinkat|rmdir)\(|O_TRUNC|O_APPEND' \
+    | grep -vE "^(mkdir|rmdir)\(\"$root\"" \
+    | sed -e "s|$root/||g" -e "s|$root|.|g" -e 's/AT_FDCWD<[^>]*>, //' -e 's/|O_NOCTTY//' -e 's/|O_CLOEXEC//' \
+        -e 's/[0-9]*</</g' -e 's/) *= /) = /' > "$place/changes"
+
+# A change wants the sync of the folder that holds its name, before the next change.
+awk '
+    function holder(path) { return path ~ /\// ? substr(path, 1, index(path, "/") - 1) : "." }
+    function fail(where) { print "no sync of " wanted where; failed = 1 }
+    /^(mkdir|rename|unlink|rmdir)\(|O_TRUNC/ {
+        if (wanted != "") fail(" before " $0)
+        split($0, part, "\"")
+        wanted = holder(part[2])
+        changes++
+    }
+    /^fsync/ && index($0, "<" wanted ">") { wanted = "" }
+    END {
+        if (wanted != "") fail(" at the end")
+        if (changes == 0) { print "no change was traced"; failed = 1 }
+        exit failed
+    }
+' "$place/changes"
+
+{
+    cat << 'END'
+# What is synced, and when
+
+A trace of the system calls of `nn_files` while its test of changes runs, made by `tools/trace-syncs.sh`. Paths go from the name directory on, and `.` is the directory itself; looks are left out.
+
+- A name that is made, renamed or removed is followed by an `fsync` of the folder that holds it: of the subfolder for a file, of the directory for a subfolder.
+- A file that is made is itself synced too, since one that was emptied has to stay empty.
+- `fdatasync` makes an append last, and the file's length with it.
+- The segment in progress is opened once for all its appends and syncs. It is closed before its file is renamed, removed or made anew, and opened again by the next append.
+- A `settle` is an `fsync` of each file, of each subfolder and of the directory.
+
+END
+    printf '```\n'
+    cat "$place/changes"
+    printf '```\n'
+} > docs/SYNCS.md
+echo "traced $(grep -c 'sync(' "$place/changes") syncs: see docs/SYNCS.md"
