@@ -9,3 +9,5 @@ pub mod Base
 pub mod Given
 pub mod Mem
 pub mod Lawful
+pub mod Stop
+pub mod Flight

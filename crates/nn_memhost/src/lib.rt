@@ -8,6 +8,10 @@ mod dirs;
 mod kept;
 mod mem;
 mod past;
+mod stop;
 
 pub use mem::MemHost;
 pub use past::Part;
+pub use stop::{Choice, Keep, StopFault};
+pub use dirs::{stopped, replay, fly};
+pub use kept::KeptDir;
