@@ -9,3 +9,4 @@ pub mod Hosts
 pub mod Anew
 pub mod Saying
 pub mod Looks
+pub mod StopLemmas
