@@ -1,10 +1,10 @@
 -- What a stop leaves is what the disk model allows.
-use Rattle.std.proofs.Common.{◌≡◌, ◌≢◌, ◌⊎◌, inl, inr, ℕ, zero, suc, ◌≤◌, ◌<◌, ◌+◌, ◌-◌, ◌/◌, List, [], ◌∷◌, ◌++◌, length, take, get_or, Option, Some, None, refl, sym, ◌∙◌, ap, subst, arith, length-append}
+use Rattle.std.proofs.Common.{◌≡◌, ◌≢◌, ◌⊎◌, inl, inr, ℕ, zero, suc, ◌≤◌, ◌<◌, ◌+◌, ◌-◌, ◌/◌, min, List, [], ◌∷◌, ◌++◌, length, take, get_or, Option, Some, None, refl, sym, ◌∙◌, ap, subst, arith, length-append}
 use Rattle.std.specs.Prelude.{Bool, true, false, ◌&&◌, ◌==◌, if◌then◌else◌, option_map, slice_get, slice_index}
 use Rattle.std.specs.List.{list_all}
 use Rattle.std.proofs.Math.Path.{fun_ext}
 use Rattle.std.proofs.lemmas.Bool.Decides.{eqb_tells}
-use Rattle.std.proofs.lemmas.List.{length-take, take_more}
+use Rattle.std.proofs.lemmas.List.{length-take, take_more, get_or-take}
 use Rattle.nn_base.specs.declared.sub.Sub.{Sub}
 use Rattle.nn_base.specs.declared.file_name.FileName.{FileName}
 use Rattle.nn_host.specs.Disk.{Held, Disk, Reads, File, Call, Look, MakeSub, MakeFile, Append, Sync, RenameFile, RenameSub, RemoveFile, RemoveSub, Settle, Leaves, LeavesFile, InFlight, carried_out}
@@ -12,15 +12,16 @@ use Rattle.nn_host.specs.Moments.{Dir, Moment, Event, Entry, On, Say, Stops, Sam
 use Rattle.nn_host.proofs.MakesLemmas.{removed_part}
 use Rattle.nn_memhost.specs.declared.stop.Keep.{Keep}
 use Rattle.nn_memhost.specs.declared.stop.Keep.TheVariants as keep
+use Rattle.nn_memhost.specs.declared.past.Part.{Part}
 use Rattle.nn_memhost.specs.declared.past.Part.TheVariants.{Nothing}
 use Rattle.nn_memhost.specs.declared.past.Logged.{Logged}
 use Rattle.nn_memhost.specs.declared.past.Request.{Request}
 use Rattle.nn_memhost.specs.declared.past.Request.TheVariants as request
 use Rattle.nn_memhost.specs.Asked.{call_of}
 use Rattle.nn_memhost.specs.Content.{Content, file_of}
-use Rattle.nn_memhost.specs.Held.{map_held, disk_of, reads_of, kept_after, kept_part}
+use Rattle.nn_memhost.specs.Held.{map_held, disk_of, reads_of, kept_after, kept_part, kept_left}
 use Rattle.nn_memhost.specs.Part.{taken_of}
-use Rattle.nn_memhost.specs.Past.{Past, moment_of, event_of, put_at, one, run}
+use Rattle.nn_memhost.specs.Past.{Past, moment_of, event_of, put_at, after, one, run}
 use Rattle.nn_memhost.specs.Stop.{turned, stays, left_by, in_flight, flown, moment_in, stopped_content}
 use Rattle.nn_memhost.specs.Flight.{kept_flight, all_flight}
 use Rattle.nn_memhost.proofs.PastLemmas.{trace_len, run-push}
@@ -188,3 +189,16 @@ pub list_all-at : {A : Type 0} (p : A → Bool) (xs : List A) (k : ℕ) (e : A) 
 list_all-at p [] k e all lt is = absurd (omega arith)
 list_all-at p (x ∷ xs) zero e all lt is = let b = both (p x) (list_all p xs) all in ap p is ∙ b.0
 list_all-at p (x ∷ xs) (suc k) e all lt is = let b = both (p x) (list_all p xs) all in list_all-at p xs k e b.1 (omega arith) is
+
+-- what a call makes of the contents hangs on them alone
+pub after_kept : (r : Request) (failed : Option Part) (a b : ℕ → Held Content) (said said' : List ℕ) → ((j : ℕ) → a j ≡ b j) → (j : ℕ)
+    → (after r failed (record { kept = a; said = said })).kept j ≡ (after r failed (record { kept = b; said = said' })).kept j
+after_kept (request.On i asked) failed a b said said' same j = ap (λ (kept : ℕ → Held Content). put_at i.0 (kept_left failed (call_of asked) (kept i.0)) kept j) (fun_ext same)
+after_kept (request.Say bytes) failed a b said said' same j = same j
+
+-- one of the first k calls is one of all
+pub among_first : (xs ys : List Logged) (k i : ℕ) (e : Logged) → xs ≡ ys → i < length (take k xs) → e ≡ get_or (take k xs) i e → (i < length ys) × (e ≡ get_or ys i e)
+among_first xs ys k i e same lt is =
+    let short : i < min k (length xs) = omega (arith, lt, length-take k xs) in
+    let below : i < k = omega (arith, short) in
+    (omega (arith, short, ap length same), is ∙ get_or-take k xs i e below ∙ ap (λ (l : List Logged). get_or l i e) same)

@@ -11,3 +11,4 @@ pub mod Mem
 pub mod Lawful
 pub mod Stop
 pub mod Flight
+pub mod Left

@@ -13,5 +13,3 @@ mod stop;
 pub use mem::MemHost;
 pub use past::Part;
 pub use stop::{Choice, Keep, StopFault};
-pub use dirs::{stopped, replay, fly};
-pub use kept::KeptDir;
