@@ -103,8 +103,8 @@ module _ (m : MemHost) (i : DirNo) (asked : Asked) (later : Past) (count : ℕ) 
       (subst (λ (n : ℕ). Called {T = T} {E = E} told i.0 (call_of asked) (mem_state m) (state_of later (raised i.0 m.counts) n) (Err e)) (sym same_count)
       (subst (λ (p : Past). Called {T = T} {E = E} told i.0 (call_of asked) (mem_state m) (state_of p (raised i.0 m.counts) (length m.dirs.items)) (Err e)) (sym is)
       (failed (past_of m) i asked m.counts (length m.dirs.items) part e
-        (sym (ap (λ (c : Counts). slice_index c.dirs i.0) raise) ∙ here) ((mem_lawful m).disks i.0)
-        (subst (λ (p : Past). Leaves (disk_of (p.now.kept i.0)) (reads_of (p.now.kept i.0))) is leaves))))
+      (sym (ap (λ (c : Counts). slice_index c.dirs i.0) raise) ∙ here) ((mem_lawful m).disks i.0)
+      (subst (λ (p : Past). Leaves (disk_of (p.now.kept i.0)) (reads_of (p.now.kept i.0))) is leaves))))
 
   pub starved_in : {T E told : Type 0} (e : E) (counts : Counts) → later ≡ past_of m → counts ≡ raised i.0 m.counts → slice_index counts.dirs i.0 ≡ next_count (slice_index m.counts.dirs i.0)
       → Called {T = T} {E = E} told i.0 (call_of asked) (mem_state m) (state_of later counts count) (Err e)

@@ -68,7 +68,7 @@ one_changed g es fs k x y so_far lt at changed =
     map-set placed_of fs k y
     ∙ ap (λ (ps : List Placed). slice_set ps k (placed_of y)) so_far
     ∙ mapped_more g k es (placed_of y) (placed_of x) (omega (arith, lt, length-map fs placed_of, ap length so_far, length-mapped g k es))
-      (changed ∙ ap g (placed_at fs k x at ∙ ap (λ (ps : List Placed). get_or ps k (placed_of x)) so_far ∙ mapped_at g k es (placed_of x)))
+    (changed ∙ ap g (placed_at fs k x at ∙ ap (λ (ps : List Placed). get_or ps k (placed_of x)) so_far ∙ mapped_at g k es (placed_of x)))
 
 -- what is left where files are taken out
 

@@ -44,7 +44,7 @@ module _ (m : MemHost) (k : ℕ) (choice : Choice) (logged : Logged) where
     kept = λ j.
         stays j
         ∙ ap (λ (h : Held Content). map_held (stopped_content choice.keep) h)
-          (ap (λ (ds : List KeptDir). kept_at ds j) same ∙ flight j ∙ ap (λ (held : ℕ → Held Content). all_flight choice.done logged.request held j) (fun_ext before));
+        (ap (λ (ds : List KeptDir). kept_at ds j) same ∙ flight j ∙ ap (λ (held : ℕ → Held Content). all_flight choice.done logged.request held j) (fun_ext before));
   }
 
 -- the host that starts on them

@@ -88,7 +88,12 @@ fn carry_part(dir: &mut KeptDir, asked: &Asked, part: Part) -> Result<(), NoMemo
 }
 
 /// Does what the call leaves: all of it where it returns, and else the part that the list of faults says.
-pub fn carry(alloc: Global, dir: &mut KeptDir, asked: &Asked, failed: Option<Part>) -> Result<(), NoMemory>
+pub fn carry(
+    alloc: Global,
+    dir: &mut KeptDir,
+    asked: &Asked,
+    failed: Option<Part>,
+) -> Result<(), NoMemory>
     ensures ok { OnOk result (held_of dir.new ≡ kept_left failed (call_of asked.now) (held_of dir.old)) }
     ensures err { OnErr result (held_of dir.new ≡ held_of dir.old) }
 {

@@ -62,7 +62,12 @@ pub fn replay(alloc: Global, dirs: &mut Vec<KeptDir>, logged: &Logged) -> Result
 }
 
 /// Does a recorded call as a stop inside it leaves it, where its name, rename or removal took place or not.
-pub fn fly(alloc: Global, dirs: &mut Vec<KeptDir>, logged: &Logged, done: bool) -> Result<(), NoMemory>
+pub fn fly(
+    alloc: Global,
+    dirs: &mut Vec<KeptDir>,
+    logged: &Logged,
+    done: bool,
+) -> Result<(), NoMemory>
     requires { is_below (length dirs.old.items) logged.now ≡ true }
     ensures ok { OnOk result ((j : ℕ) → kept_at dirs.new.items j ≡ all_flight done logged.now.request (kept_at dirs.old.items) j) }
     ensures len { length dirs.new.items ≡ length dirs.old.items }

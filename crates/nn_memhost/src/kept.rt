@@ -100,7 +100,13 @@ impl KeptDir {
     }
 
     /// Hands bytes to a file, of which the first are written.
-    pub fn append(&mut self, sub: Sub, name: &FileName, bytes: &[u8], count: usize) -> Result<(), NoMemory>
+    pub fn append(
+        &mut self,
+        sub: Sub,
+        name: &FileName,
+        bytes: &[u8],
+        count: usize,
+    ) -> Result<(), NoMemory>
         requires { count ≤ length bytes.now }
         ensures ok { OnOk result (held_of self.new ≡ written count sub name.now bytes.now (held_of self.old)) }
         ensures err { OnErr result (held_of self.new ≡ held_of self.old) }

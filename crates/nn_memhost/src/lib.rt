@@ -13,3 +13,6 @@ mod stop;
 pub use mem::MemHost;
 pub use past::Part;
 pub use stop::{Choice, Keep, StopFault};
+
+#[cfg(test)]
+mod tests;

@@ -15,7 +15,7 @@ pub files-preserved : goal.files-preserved
 files-preserved c =
     ap (λ (fs : List KeptFile). map placed_of fs) c.in_ok-push.ensures.items
     ∙ one_made (placed_by (stopped_content c.args.keep)) c.args.files.now c.files.file-index c.files.left.items c.file-item.result c.in_ok-stopped.field-0 c.files.invariant c.files-test.true c.file-item.is
-      (λ i. record { sub = c.in_ok-stopped.ensures.at.0 i; name = c.in_ok-stopped.ensures.at.1 i; content = c.in_ok-stopped.ensures.content i })
+    (λ i. record { sub = c.in_ok-stopped.ensures.at.0 i; name = c.in_ok-stopped.ensures.at.1 i; content = c.in_ok-stopped.ensures.content i })
 
 pub returns : goal.returns
 returns c = λ q m.
