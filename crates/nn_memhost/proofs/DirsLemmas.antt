@@ -70,3 +70,18 @@ dir_copied ds k copies x y so_far lt at same =
     map-append held_of copies (y ∷ [])
     ∙ (λ i. so_far i ++ (same ∙ ap held_of at ∙ sym (get_or-map held_of ds k x)) i ∷ [])
     ∙ sym (take_more (map held_of ds) k (held_of x) (omega (arith, lt, length-map ds held_of)))
+
+-- one more of a list is copied and changed
+pub dir_made : (h : Held Content → Held Content) (ds : List KeptDir) (k : ℕ) (made : List KeptDir) (x y : KeptDir) → map held_of made ≡ take k (map h (map held_of ds)) → k < length ds → x ≡ get_or ds k x → held_of y ≡ h (held_of x)
+    → map held_of (made ++ y ∷ []) ≡ take (k + 1) (map h (map held_of ds))
+dir_made h ds k made x y so_far lt at changed =
+    map-append held_of made (y ∷ [])
+    ∙ (λ i. so_far i ++ (changed ∙ ap h (ap held_of at ∙ sym (get_or-map held_of ds k x)) ∙ sym (get_or-map h (map held_of ds) k (held_of x))) i ∷ [])
+    ∙ sym (take_more (map h (map held_of ds)) k (h (held_of x)) (omega (arith, lt, length-map ds held_of, length-map (map held_of ds) h)))
+
+-- all were
+pub dirs_made : (h : Held Content → Held Content) → h bare ≡ bare → (ds made : List KeptDir) → map held_of made ≡ map h (map held_of ds) → (j : ℕ) → kept_at made j ≡ h (kept_at ds j)
+dirs_made h same ds made e j =
+    ap (λ (hs : List (Held Content)). get_or hs j bare) e
+    ∙ ap (λ (d : Held Content). get_or (map h (map held_of ds)) j d) (sym same)
+    ∙ get_or-map h (map held_of ds) j bare

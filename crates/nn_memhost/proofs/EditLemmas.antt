@@ -133,3 +133,11 @@ one_copied es k copies x y so_far lt at same =
     map-append placed_of copies (y ∷ [])
     ∙ (λ i. so_far i ++ (same ∙ placed_at es k x at) i ∷ [])
     ∙ sym (take_more (map placed_of es) k (placed_of x) (omega (arith, lt, length-map es placed_of)))
+
+-- one more of a list is copied and changed
+pub one_made : (g : Placed → Placed) (es : List KeptFile) (k : ℕ) (made : List KeptFile) (x y : KeptFile) → map placed_of made ≡ take k (map g (map placed_of es)) → k < length es → x ≡ get_or es k x → placed_of y ≡ g (placed_of x)
+    → map placed_of (made ++ y ∷ []) ≡ take (k + 1) (map g (map placed_of es))
+one_made g es k made x y so_far lt at changed =
+    map-append placed_of made (y ∷ [])
+    ∙ (λ i. so_far i ++ (changed ∙ ap g (placed_at es k x at) ∙ sym (get_or-map g (map placed_of es) k (placed_of x))) i ∷ [])
+    ∙ sym (take_more (map g (map placed_of es)) k (g (placed_of x)) (omega (arith, lt, length-map es placed_of, length-map (map placed_of es) g)))

@@ -168,6 +168,13 @@ pub find_in-synced : (ps : List Placed) (q : Sub) (m : FileName) → find_in (ma
 find_in-synced [] q m = refl
 find_in-synced (p ∷ ps) q m = ap (λ (rest : Option Content). if fits q m p then Some (synced_content p.content) else rest) (find_in-synced ps q m) ∙ option_if synced_content (fits q m p) p.content (find_in ps q m)
 
+abbrev pub placed_by : (Content → Content) → Placed → Placed
+placed_by g p = record p { content = g p.content }
+
+pub find_in-placed_by : (g : Content → Content) (ps : List Placed) (q : Sub) (m : FileName) → find_in (map (placed_by g) ps) q m ≡ option_map g (find_in ps q m)
+find_in-placed_by g [] q m = refl
+find_in-placed_by g (p ∷ ps) q m = ap (λ (rest : Option Content). if fits q m p then Some (g p.content) else rest) (find_in-placed_by g ps q m) ∙ option_if g (fits q m p) p.content (find_in ps q m)
+
 -- one is renamed
 
 abbrev pub renamed : Sub → FileName → FileName → Placed → Placed

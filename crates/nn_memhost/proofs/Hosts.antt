@@ -1,8 +1,10 @@
 -- A host in memory after one of its parts was changed: what its record comes to, and that its contents are tied to it.
-use Rattle.std.proofs.Common.{◌≡◌, ◌≢◌, inl, inr, ℕ, ◌≤◌, List, [], ◌∷◌, ◌++◌, length, take, Option, Some, None, refl, sym, ◌∙◌, ap}
-use Rattle.std.specs.Prelude.{if◌then◌else◌, ◌==◌, IsSome}
+use Rattle.std.proofs.Common.{◌≡◌, ◌≢◌, inl, inr, ℕ, ◌≤◌, ◌<◌, List, [], ◌∷◌, ◌++◌, length, take, Option, Some, None, refl, sym, ◌∙◌, ap}
+use Rattle.std.specs.Prelude.{if◌then◌else◌, ◌==◌, true, IsSome}
 use Rattle.std.specs.Global.{Vec}
 use Rattle.std.proofs.Math.Path.{fun_ext}
+use Rattle.std.specs.List.{list_all}
+use Rattle.std.proofs.lemmas.Bool.{lt-ltb}
 use Rattle.nn_base.specs.declared.ids.DirNo.{DirNo}
 use Rattle.nn_host.specs.Disk.{Held}
 use Rattle.nn_memhost.specs.declared.counts.Counts.{Counts}
@@ -15,9 +17,10 @@ use Rattle.nn_memhost.specs.Asked.{call_of}
 use Rattle.nn_memhost.specs.Base.{base_of}
 use Rattle.nn_memhost.specs.Content.{Content}
 use Rattle.nn_memhost.specs.Held.{kept_left}
-use Rattle.nn_memhost.specs.Past.{Past, kept_at, put_at, start, one, run}
+use Rattle.nn_memhost.specs.Past.{Past, kept_at, put_at, start, one, run, is_below}
 use Rattle.nn_memhost.specs.Mem.{start_of, past_of}
 use Rattle.nn_memhost.proofs.PastLemmas.{run-push, start_same}
+use Rattle.nn_memhost.proofs.StopLemmas.{list_all-push}
 use Rattle.nn_memhost.proofs.Calls.{asking}
 
 -- a base that is there doesn't hang on the contents
@@ -59,3 +62,10 @@ pub based_on : (base old : Option (Vec KeptDir)) (dirs before kept : List KeptDi
     → (j : ℕ) → kept_at (base_of base dirs) j ≡ kept_at (base_of old before) j
 based_on base old dirs before kept there is same j =
     ap (λ (ds : List KeptDir). kept_at ds j) (base_there base dirs kept there) ∙ same j ∙ ap (λ (ds : List KeptDir). kept_at (base_of old ds) j) is
+
+-- each recorded call is on a directory that is there
+pub more_placed : (m : MemHost) (dirs : List KeptDir) (i : DirNo) (asked : Asked) (failed : Option Part) (calls : List Logged) → calls ≡ m.calls.items ++ asking i asked failed m.counts ∷ [] → length dirs ≡ length m.dirs.items → i.0 < length m.dirs.items
+    → list_all (is_below (length dirs)) calls ≡ true
+more_placed m dirs i asked failed calls noted len below =
+    (λ k. list_all (is_below (len k)) (noted k))
+    ∙ list_all-push (is_below (length m.dirs.items)) m.calls.items (asking i asked failed m.counts) m.placed (lt-ltb i.0 (length m.dirs.items) below)

@@ -4,8 +4,10 @@ pub mod HeldLemmas
 pub mod DirsLemmas
 pub mod ViewLemmas
 pub mod PastLemmas
+pub mod StopLemmas
 pub mod Calls
 pub mod Hosts
 pub mod Anew
 pub mod Saying
 pub mod Looks
+pub mod Left

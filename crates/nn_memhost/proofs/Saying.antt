@@ -3,6 +3,8 @@ use Rattle.std.proofs.Common.{◌≡◌, inl, inr, ℕ, ◌<◌, ◌≤◌, List
 use Rattle.std.proofs.Math.Seq.{take-length}
 use Rattle.std.proofs.lemmas.List.{take-append-le}
 use Rattle.std.specs.Global.{Vec}
+use Rattle.std.specs.List.{list_all}
+use Rattle.std.specs.Prelude.{true}
 use Rattle.nn_host.specs.Disk.{Held}
 use Rattle.nn_host.specs.Moments.{moment}
 use Rattle.nn_host.specs.Calls.{Spoke}
@@ -15,8 +17,9 @@ use Rattle.nn_memhost.specs.Base.{base_of}
 use Rattle.nn_memhost.specs.Content.{Content}
 use Rattle.nn_memhost.specs.Counts.{raised_out}
 use Rattle.nn_memhost.specs.Part.{taken_of}
-use Rattle.nn_memhost.specs.Past.{Past, NotedSaying, kept_at, start, run, one, state_of}
+use Rattle.nn_memhost.specs.Past.{Past, NotedSaying, kept_at, start, run, one, state_of, is_below}
 use Rattle.nn_memhost.specs.Mem.{start_of, past_of, mem_state}
+use Rattle.nn_memhost.proofs.StopLemmas.{list_all-push}
 use Rattle.nn_memhost.proofs.PastLemmas.{run-push, trace_len, start_same}
 
 module _ (p : Past) (counts : Counts) (n : ℕ) (copy : Vec ℕ) where
@@ -78,3 +81,8 @@ module _ (m : MemHost) (base : ℕ → Held Content) (based : (j : ℕ) → base
 -- without a call more nothing was recorded
 pub not_recorded : (m : MemHost) (p : Past) (calls : List Logged) → p.trace ≡ [] → calls ≡ m.calls.items → moment (mem_state m) < length (run p calls).trace → ⊥
 not_recorded m p calls none same more = omega (arith, ap length same, ap length none, trace_len (start_of m) m.calls.items, trace_len p calls)
+
+pub all_placed : (m : MemHost) (bytes : List ℕ) (failed : Option Part) (calls : List Logged) → NotedSaying bytes failed m.counts m.calls.items calls → list_all (is_below (length m.dirs.items)) calls ≡ true
+all_placed m bytes failed calls noted =
+    ap (λ (l : List Logged). list_all (is_below (length m.dirs.items)) l) noted.noted
+    ∙ list_all-push (is_below (length m.dirs.items)) m.calls.items (record { request = Say noted.copy; failed = failed; before = m.counts }) m.placed refl

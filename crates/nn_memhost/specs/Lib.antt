@@ -9,3 +9,6 @@ pub mod Base
 pub mod Given
 pub mod Mem
 pub mod Lawful
+pub mod Stop
+pub mod Flight
+pub mod Left

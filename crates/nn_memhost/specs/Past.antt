@@ -1,5 +1,5 @@
 -- What a record of calls comes to, from the contents at its beginning.
-use Rattle.std.specs.Prelude.{◌≡◌, ℕ, ◌==◌, List, [], ◌∷◌, ◌++◌, take, map, Option, Some, None, slice_index, slice_index_or, if◌then◌else◌}
+use Rattle.std.specs.Prelude.{◌≡◌, ℕ, ◌==◌, nat_lt, Bool, true, List, [], ◌∷◌, ◌++◌, take, map, Option, Some, None, slice_index, slice_index_or, if◌then◌else◌}
 use Rattle.std.specs.Global.{Vec}
 use Rattle.nn_host.specs.Disk.{Held, Reads}
 use Rattle.nn_host.specs.Moments.{Moment, Event, On, Say, Entry, State}
@@ -53,6 +53,10 @@ abbrev pub after : Request → Option Part → Standing → Standing
 after (request.On i asked) failed now = record now { kept = put_at i.0 (kept_left failed (call_of asked) (now.kept i.0)) now.kept }
 after (request.Say bytes) failed now = record now { said = now.said ++ take (taken_of failed bytes.items) bytes.items }
 
+abbrev pub is_request_below : ℕ → Request → Bool
+is_request_below n (request.On i asked) = nat_lt i.0 n
+is_request_below n (request.Say bytes) = true
+
 -- the counts after it
 abbrev pub counted : Request → Option Part → Counts → Counts
 counted request None counts = counts
@@ -79,3 +83,7 @@ pub record NotedSaying (bytes : List ℕ) (failed : Option Part) (before : Count
   pub copy : Vec ℕ
   pub same : copy.items ≡ bytes
   pub noted : new ≡ old ++ record { request = request.Say copy; failed = failed; before = before } ∷ []
+
+-- it is a call on one of so many directories, or on the output
+abbrev pub is_below : ℕ → Logged → Bool
+is_below n e = is_request_below n e.request

@@ -1,5 +1,7 @@
 // What can be asked of a directory, and what it does to one that is kept in memory.
-ghost use Rattle.std.specs.Prelude.{◌≡◌, OnOk, OnErr};
+ghost use Rattle.std.specs.Prelude.{◌≡◌, OnOk, OnErr, if◌then◌else◌};
+ghost use Rattle.nn_memhost.specs.declared.past.Part.TheVariants.{Nothing};
+ghost use Rattle.nn_memhost.specs.Flight.{kept_flight};
 ghost use Rattle.nn_memhost.specs.Asked.{call_of};
 ghost use Rattle.nn_memhost.specs.Held.{held_of, kept_after, kept_part, kept_left};
 
@@ -100,5 +102,33 @@ pub fn carry(
         Some(Part::All) => carry_out(alloc, dir, asked),
         Some(Part::Half) => carry_part(dir, asked, Part::Half),
         Some(Part::Nothing) => carry_part(dir, asked, Part::Nothing),
+    }
+}
+
+// Does all of the call, or only hands over the bytes of an append.
+fn carry_if(alloc: Global, dir: &mut KeptDir, asked: &Asked, done: bool) -> Result<(), NoMemory>
+    ensures { OnOk result (held_of dir.new ≡ (if done then kept_after (call_of asked.now) (held_of dir.old) else kept_part Nothing (call_of asked.now) (held_of dir.old))) }
+{
+    if done {
+        return carry_out(alloc, dir, asked);
+    }
+    carry_part(dir, asked, Part::Nothing)
+}
+
+/// Does the call as a stop inside it leaves it, where its name, rename or removal took place or not.
+pub fn fly(alloc: Global, dir: &mut KeptDir, asked: &Asked, done: bool) -> Result<(), NoMemory>
+    ensures { OnOk result (held_of dir.new ≡ kept_flight done (call_of asked.now) (held_of dir.old)) }
+{
+    match asked {
+        Asked::Look => Ok(()),
+        Asked::Sync(_, _) => Ok(()),
+        Asked::Settle => Ok(()),
+        Asked::Append(_, _, _) => carry_if(alloc, dir, asked, done),
+        Asked::MakeSub(_) => carry_if(alloc, dir, asked, done),
+        Asked::MakeFile(_, _) => carry_if(alloc, dir, asked, done),
+        Asked::RenameFile(_, _, _) => carry_if(alloc, dir, asked, done),
+        Asked::RenameSub(_, _) => carry_if(alloc, dir, asked, done),
+        Asked::RemoveFile(_, _) => carry_if(alloc, dir, asked, done),
+        Asked::RemoveSub(_) => carry_if(alloc, dir, asked, done),
     }
 }

@@ -9,6 +9,7 @@ ghost use Rattle.nn_base.specs.declared.file_name.FileName.{FileName as N};
 ghost use Rattle.nn_memhost.specs.Kept.{content_at, has_flag};
 
 use crate::kept::file::KeptFile;
+use crate::stop::Keep;
 use nn_base::{FileName, NoMemory, Sub};
 use std::alloc::Global;
 
@@ -53,7 +54,8 @@ fn set_flag(subs: &mut [bool; 7], sub: Sub, there: bool)
 impl KeptDir {
     ghost use Rattle.std.specs.Prelude.{not, option_map};
     ghost use Rattle.nn_host.specs.Disk.{MakeSub, MakeFile, Append, Sync, RenameFile, RenameSub, RemoveFile, RemoveSub, Settle};
-    ghost use Rattle.nn_memhost.specs.Held.{held_of, bare, kept_after, given, rootless, written, settled};
+    ghost use Rattle.nn_memhost.specs.Held.{held_of, bare, kept_after, given, rootless, written, settled, map_held};
+    ghost use Rattle.nn_memhost.specs.Stop.{stopped_content};
 
     /// A directory with a root and nothing in it.
     pub fn bare(alloc: Global) -> KeptDir
@@ -172,6 +174,19 @@ impl KeptDir {
         ensures { IfOk result (λ copy. held_of copy ≡ held_of self.now) }
     {
         let files = files::copy_all(alloc, &self.files)?;
+        let subs = self.subs;
+        Ok(KeptDir {
+            root: self.root,
+            subs,
+            files,
+        })
+    }
+
+    /// A copy of what a stop leaves of it.
+    pub fn stopped(&self, alloc: Global, keep: Keep) -> Result<KeptDir, NoMemory>
+        ensures { IfOk result (λ left. held_of left ≡ map_held (stopped_content keep) (held_of self.now)) }
+    {
+        let files = files::stopped(alloc, &self.files, keep)?;
         let subs = self.subs;
         Ok(KeptDir {
             root: self.root,

@@ -8,6 +8,11 @@ mod dirs;
 mod kept;
 mod mem;
 mod past;
+mod stop;
 
 pub use mem::MemHost;
 pub use past::Part;
+pub use stop::{Choice, Keep, StopFault};
+
+#[cfg(test)]
+mod tests;

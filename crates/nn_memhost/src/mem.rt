@@ -1,13 +1,15 @@
 // The host in memory.
 ghost use Rattle.std.specs.Prelude.{◌≡◌, ◌≢◌, ◌<◌, ◌≤◌, ◌++◌, ◌∷◌, [], ℕ, true, false, length, take, vec_len, vec_capacity, OnOk, OnErr, IfOk, IsSome, is_some};
 ghost use Rattle.nn_memhost.specs.Base.{base_of};
-ghost use Rattle.nn_memhost.specs.Past.{start, run, kept_at};
+ghost use Rattle.std.specs.List.{list_all};
+ghost use Rattle.nn_memhost.specs.Past.{start, run, kept_at, is_below};
 
 use crate::asked::{self, Asked};
 use crate::counts::{self, Counts};
 use crate::dirs;
 use crate::kept::{self, KeptDir, files};
 use crate::past::{self, Logged, Part, Request};
+use crate::stop::{Choice, StopFault};
 use nn_base::{DirNo, FileName, NoMemory, Sub};
 use nn_host::{Failed, Host, ListFault};
 use std::alloc::Global;
@@ -32,6 +34,8 @@ pub struct MemHost {
     ghost few: { length dirs.items ≤ 8 },
     ghost earlier: { said_before ≤ length said.items },
     ghost spoken: { (run (start (kept_at (base_of base dirs.items)) (take said_before said.items) began) calls.items).now.said ≡ said.items },
+    ghost based: { length (base_of base dirs.items) ≡ length dirs.items },
+    ghost placed: { list_all (is_below (length dirs.items)) calls.items ≡ true },
     ghost tied: { (j : ℕ) → (run (start (kept_at (base_of base dirs.items)) (take said_before said.items) began) calls.items).now.kept j ≡ kept_at dirs.items j },
 }
 
@@ -42,6 +46,7 @@ fn keep_base(
     kept: &[KeptDir],
 ) -> Result<(), NoMemory>
     ensures there { OnOk result (IsSome base.new) }
+    ensures len { length (base_of base.old kept.now) ≡ length kept.now → length (base_of base.new kept.now) ≡ length kept.now }
     ensures same { (j : ℕ) → kept_at (base_of base.new kept.now) j ≡ kept_at (base_of base.old kept.now) j }
 {
     if base.is_none() {
@@ -66,7 +71,11 @@ impl MemHost {
     ghost use Rattle.nn_memhost.specs.Asked.{call_of};
     ghost use Rattle.nn_memhost.specs.Past.{one};
     ghost use Rattle.nn_memhost.specs.Given.{Anew, with_given, no_reads};
-    ghost use Rattle.nn_memhost.specs.Mem.{past_of, mem_state, new_state, FailsAsListed};
+    ghost use Rattle.std.specs.Prelude.{IsErrOf, ◌↔◌};
+    ghost use Rattle.nn_memhost.specs.declared.stop.StopFault.TheVariants as fault;
+    ghost use Rattle.nn_memhost.specs.Stop.{IsStop};
+    ghost use Rattle.nn_memhost.specs.Left.{IsLeft, IsFresh};
+    ghost use Rattle.nn_memhost.specs.Mem.{start_of, past_of, mem_state, new_state, FailsAsListed};
 
     /// A host of so many directories, with all roots and nothing in them. The calls whose numbers the list has fail, and
     /// leave the part that stands beside the number; of several mentions the first counts.
@@ -194,6 +203,62 @@ impl MemHost {
                 Err(Failed)
             }
         }
+    }
+
+    // The contents before call k was begun.
+    fn replayed(&self, k: usize) -> Result<Vec<KeptDir>, NoMemory>
+        requires { k < length self.now.calls.items }
+        ensures count { IfOk result (λ kept. length kept.items ≡ length self.now.dirs.items) }
+        ensures value { IfOk result (λ kept. (j : ℕ) → kept_at kept.items j ≡ (run (start_of self.now) (take k self.now.calls.items)).now.kept j) }
+    {
+        let mut kept = match &self.base {
+            Some(base) => dirs::copy(self.alloc, base)?,
+            None => dirs::copy(self.alloc, &self.dirs)?,
+        };
+        'calls: for logged in &self.calls[..k] {
+            dirs::replay(self.alloc, &mut kept, logged)?;
+        }
+        Ok(kept)
+    }
+
+    // The contents that a stop inside call k leaves.
+    fn contents_at(&self, k: usize, choice: Choice) -> Result<Vec<KeptDir>, NoMemory>
+        requires { k < length self.now.calls.items }
+        ensures { IfOk result (IsLeft k choice self.now) }
+    {
+        let mut kept = self.replayed(k)?;
+        let last = &self.calls[k];
+        dirs::fly(self.alloc, &mut kept, last, choice.done)?;
+        dirs::stopped(self.alloc, &kept, choice.keep)
+    }
+
+    /// A host with the contents that a stop inside call k leaves, all of them synced, as one that starts on them finds
+    /// them: nothing is said or recorded yet, nothing has failed, and no call is to fail.
+    ///
+    /// `NoSuchCall` where not so many calls were recorded.
+    pub fn stopped_at(&self, k: u64, choice: Choice) -> Result<MemHost, StopFault>
+        ensures stop { IfOk result (λ m. IsStop k choice (mem_state self.now) (mem_state m)) }
+        ensures fresh { IfOk result (λ m. IsFresh (mem_state m) × (m.starved ≡ 0) × (m.fails.items ≡ [])) }
+        ensures none { IsErrOf result fault.NoSuchCall ↔ (moment (mem_state self.now) ≤ k) }
+    {
+        if k >= self.calls() {
+            return Err(StopFault::NoSuchCall);
+        }
+        let Ok(kept) = self.contents_at(k as usize, choice) else {
+            return Err(StopFault::Memory);
+        };
+        Ok(MemHost {
+            alloc: self.alloc,
+            dirs: kept,
+            base: None,
+            said: Vec::new(self.alloc),
+            counts: counts::none(),
+            fails: Vec::new(self.alloc),
+            starved: 0,
+            calls: Vec::new(self.alloc),
+            began: counts::none(),
+            said_before: 0,
+        })
     }
 }
 

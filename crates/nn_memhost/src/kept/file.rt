@@ -7,6 +7,7 @@ ghost use Rattle.nn_base.specs.declared.file_name.FileName.{FileName as N};
 ghost use Rattle.nn_host.specs.Disk.{added};
 ghost use Rattle.nn_memhost.specs.Content.{fresh_content, synced_content, grown};
 
+use crate::stop::{Keep, keep_tail};
 use nn_base::{FileName, NoMemory, Sub};
 use std::alloc::Global;
 
@@ -24,6 +25,7 @@ pub struct KeptFile {
 
 impl KeptFile {
     ghost use Rattle.nn_memhost.specs.Kept.{content_of};
+    ghost use Rattle.nn_memhost.specs.Stop.{stopped_content};
 
     pub fn fresh(alloc: Global, sub: Sub, name: FileName) -> KeptFile
         ensures content { content_of result ≡ fresh_content }
@@ -67,6 +69,16 @@ impl KeptFile {
             synced: self.synced,
             pending,
         })
+    }
+
+    /// A copy of what a stop leaves of it.
+    pub fn stopped(&self, alloc: Global, keep: Keep) -> Result<KeptFile, NoMemory>
+        ensures content { IfOk result (λ left. content_of left ≡ stopped_content keep (content_of self.now)) }
+        ensures at { IfOk result (λ left. (left.sub ≡ self.now.sub) × (left.name ≡ self.now.name)) }
+    {
+        let mut bytes = Vec::from_slice(alloc, &self.bytes[..self.synced])?;
+        keep_tail(&mut bytes, &self.pending, keep)?;
+        Ok(KeptFile::synced(self.sub, self.name, bytes))
     }
 
     // Takes these bytes, of which the first are written.

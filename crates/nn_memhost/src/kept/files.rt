@@ -6,9 +6,11 @@ ghost use Rattle.nn_base.specs.declared.sub.Sub.{Sub as S};
 ghost use Rattle.nn_base.specs.declared.file_name.FileName.{FileName as N};
 ghost use Rattle.nn_host.specs.Listing.{IsRead};
 ghost use Rattle.nn_memhost.specs.Content.{Content, synced_content, grown, shown_of};
+ghost use Rattle.nn_memhost.specs.Stop.{stopped_content};
 ghost use Rattle.nn_memhost.specs.Kept.{content_of, placed_of, fits, content_at};
 
 use crate::kept::file::KeptFile;
+use crate::stop::Keep;
 use nn_base::{FileName, NoMemory, Sub};
 use std::alloc::Global;
 
@@ -215,4 +217,15 @@ pub fn copy_all(alloc: Global, files: &[KeptFile]) -> Result<Vec<KeptFile>, NoMe
         copies.push(file.copy_of(alloc)?)?;
     }
     Ok(copies)
+}
+
+/// Copies of what a stop leaves of these files.
+pub fn stopped(alloc: Global, files: &[KeptFile], keep: Keep) -> Result<Vec<KeptFile>, NoMemory>
+    ensures { IfOk result (λ left. (q : S) (m : N) → content_at left.items q m ≡ option_map (stopped_content keep) (content_at files.now q m)) }
+{
+    let mut left = Vec::with_capacity(alloc, files.len())?;
+    'files: for file in files {
+        left.push(file.stopped(alloc, keep)?)?;
+    }
+    Ok(left)
 }

@@ -3,7 +3,7 @@ use Rattle.nn_host.specs.Disk.{Held}
 use Rattle.nn_memhost.specs.Base.{base_of}
 use Rattle.nn_memhost.specs.Content.{Content}
 use Rattle.nn_memhost.specs.Past.{kept_at}
-use Rattle.nn_memhost.proofs.Saying.{all_said, all_tied, still_within, spoke_done, spoke_failed, not_recorded}
+use Rattle.nn_memhost.proofs.Saying.{all_placed, all_said, all_tied, still_within, spoke_done, spoke_failed, not_recorded}
 use Rattle.nn_memhost.proofs.mem.MemHostHost.say.Goals as goal
 
 pub returns-then-not-utter-clause-part : goal.returns-then-not-utter-clause-part
@@ -17,6 +17,8 @@ invariant_of-self-in-None c =
       few = m.few;
       earlier = still_within m base (λ j. refl) c.args.bytes.now c.part_of-failed.result c.utter.new.calls.items c.utter.new.said.items (c.utter.ensures.noted c.if-not-utter.false) (c.utter.ensures.said c.if-not-utter.false);
       spoken = all_said m base (λ j. refl) c.args.bytes.now c.part_of-failed.result c.utter.new.calls.items c.utter.new.said.items (c.utter.ensures.noted c.if-not-utter.false) (c.utter.ensures.said c.if-not-utter.false);
+      based = m.based;
+      placed = all_placed m c.args.bytes.now c.part_of-failed.result c.utter.new.calls.items (c.utter.ensures.noted c.if-not-utter.false);
       tied = all_tied m base (λ j. refl) c.args.bytes.now c.part_of-failed.result c.utter.new.calls.items c.utter.new.said.items (c.utter.ensures.noted c.if-not-utter.false) (c.utter.ensures.said c.if-not-utter.false);
     }
 
@@ -28,6 +30,8 @@ invariant_of-self-in-Some c =
       few = m.few;
       earlier = still_within m base (λ j. refl) c.args.bytes.now c.part_of-failed.result c.utter.new.calls.items c.utter.new.said.items (c.utter.ensures.noted c.if-not-utter.false) (c.utter.ensures.said c.if-not-utter.false);
       spoken = all_said m base (λ j. refl) c.args.bytes.now c.part_of-failed.result c.utter.new.calls.items c.utter.new.said.items (c.utter.ensures.noted c.if-not-utter.false) (c.utter.ensures.said c.if-not-utter.false);
+      based = m.based;
+      placed = all_placed m c.args.bytes.now c.part_of-failed.result c.utter.new.calls.items (c.utter.ensures.noted c.if-not-utter.false);
       tied = all_tied m base (λ j. refl) c.args.bytes.now c.part_of-failed.result c.utter.new.calls.items c.utter.new.said.items (c.utter.ensures.noted c.if-not-utter.false) (c.utter.ensures.said c.if-not-utter.false);
     }
 
