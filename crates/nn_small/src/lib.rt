@@ -3,6 +3,8 @@
 #![tactic(auto)]
 
 mod read;
+#[cfg(test)]
+mod tests;
 mod write;
 
 pub use read::{ReadAll, read_all};
