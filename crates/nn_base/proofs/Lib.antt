@@ -3,3 +3,5 @@ pub mod FileTextLemmas
 pub mod NamesLemmas
 pub mod PaddedLemmas
 pub mod PathsLemmas
+pub mod PathTextLemmas
+pub mod PathReadingLemmas

@@ -56,11 +56,7 @@ read_more names k size x within is name r =
     }
 
 -- once all were read
-pub all_read : (names : Names) (k size : ℕ) → Read names k size → length names ≤ k → length names ≤ 1000 → size ≤ 8000 → IsPath names
-all_read names k size r all levels small =
+pub all_read : (names : Names) (k size : ℕ) → length names ≤ k → Read names k size → (size ≡ length (joined names)) × All (λ name. is_name name ≡ true) names
+all_read names k size all r =
     let e : take k names ≡ names = take_all k names all in
-    record {
-      named = subst (λ (t : Names). All (λ name. is_name name ≡ true) t) e r.named;
-      levels = levels;
-      size = omega (arith, r.text, ap (λ t. length (joined t)) e);
-    }
+    (r.text ∙ ap (λ t. length (joined t)) e, subst (λ (t : Names). All (λ name. is_name name ≡ true) t) e r.named)

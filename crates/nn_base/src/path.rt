@@ -1,11 +1,20 @@
 // A place in the namespace.
-ghost use Rattle.std.specs.Prelude.{◌≡◌, ◌-◌, ◌<◌, Some, [], length, take, slice_get, IfOk};
+mod fault;
+mod parse;
+mod text;
+
+ghost use Rattle.std.specs.Prelude.{◌≡◌, ◌-◌, ◌<◌, ◌^◌, true, Some, [], length, take, slice_get, All, IfOk};
 ghost use Rattle.std.specs.Option.{SomeIff};
-ghost use Rattle.nn_base.specs.Paths.{IsPath};
+ghost use Rattle.nn_base.specs.Paths.{IsPath, is_name, joined};
 
 use crate::{Name, NoMemory};
+pub use fault::PathFault;
 use std::alloc::Global;
 use std::marker::Model;
+
+const MAX_LEVELS: usize = 1000;
+
+const MAX_BYTES: usize = 8000;
 
 /// A path, as its names from the root. It has at most 1,000 levels and 8,000 bytes of text, the limits of HDFS (`MAX_PATH_DEPTH`, `MAX_PATH_LENGTH`).
 #[derive(Drop)]
@@ -38,14 +47,10 @@ impl Path {
     pub fn of(names: Vec<Name>) -> Option<Path>
         ensures { SomeIff result (IsPath names.items) names.items }
     {
-        if 1000 < names.len() {
+        if MAX_LEVELS < names.len() {
             return None;
         }
-        let mut size = 0;
-        for name in &names {
-            size += 1 + name.bytes().len();
-        }
-        if 8000 < size {
+        if MAX_BYTES < text_len(&names) {
             return None;
         }
         Some(Path { names })
@@ -78,6 +83,19 @@ impl Path {
         }
         Ok(Path { names })
     }
+}
+
+// How many bytes some names have as a text, a `/` before each.
+fn text_len(names: &[Name]) -> usize
+    requires { length names.now < 2 ^ 32 }
+    ensures value { result ≡ length (joined names.now) }
+    ensures named { All (λ name. is_name name ≡ true) names.now }
+{
+    let mut len = 0;
+    for name in names {
+        len += 1 + name.bytes().len();
+    }
+    len
 }
 
 #[cfg(test)]

@@ -13,8 +13,9 @@ pub enum Sub {
     RemovedTmp,
     /// `finalized.tmp`: a saved state is being given up
     FinalizedTmp,
-    /// `lastcheckpoint.tmp`: an import of a checkpoint is on its way
+    /// `lastcheckpoint.tmp`: left by an older release that was interrupted while it saved a checkpoint in place. No
+    /// operation here makes it; it is only recovered
     LastCheckpointTmp,
-    /// `previous.checkpoint`: what an import replaced
+    /// `previous.checkpoint`: the state that such a checkpoint replaced
     PreviousCheckpoint,
 }

@@ -1,5 +1,6 @@
-// Names and words with expected values that were written down by hand.
-use crate::{FileName, FirstTxid, Span, Txid, Word};
+// Names, words and paths with expected values that were written down by hand.
+use crate::{FileName, FirstTxid, NoMemory, Path, PathFault, Span, Txid, Word};
+use std::alloc::Global;
 use std::test::Fail;
 
 const LAST: u64 = 9_223_372_036_854_775_807;
@@ -92,6 +93,96 @@ fn a_word_has_one_to_255_bytes_that_print(rt: HostRuntime) -> Result<(), Fail> {
         longer.as_slice(),
     ] {
         assert!(rt; Word::of(text).is_none());
+    }
+    Ok(())
+}
+
+// Texts of paths with their first fault.
+const TEXTS: [(&[u8], Option<PathFault>); 16] = [
+    (b"/", None),
+    (b"/a", None),
+    (b"/...", None),
+    (b"/user/hdfs/.a", None),
+    (b"/a%2fb", None),
+    (b"", Some(PathFault::Empty)),
+    (b"a", Some(PathFault::Relative)),
+    (b"a//b", Some(PathFault::Relative)),
+    (b"/a/", Some(PathFault::BadName)),
+    (b"//", Some(PathFault::BadName)),
+    (b"//a", Some(PathFault::BadName)),
+    (b"/a//b", Some(PathFault::BadName)),
+    (b"/.", Some(PathFault::BadName)),
+    (b"/a/..", Some(PathFault::BadName)),
+    (b"/a:b", Some(PathFault::BadName)),
+    (b"/a\0", Some(PathFault::BadName)),
+];
+
+// Texts of parts, so many of so many letters each.
+const LONG_TEXTS: [(&[(usize, usize)], Option<PathFault>); 10] = [
+    (&[(1, 255)], None),
+    (&[(1, 256)], Some(PathFault::LongName)),
+    (&[(1, 0), (1, 256)], Some(PathFault::BadName)),
+    (&[(1, 256), (1, 0)], Some(PathFault::LongName)),
+    (&[(31, 255), (1, 63)], None),
+    (&[(31, 255), (1, 64)], Some(PathFault::LongPath)),
+    (&[(1, 8000), (1, 0)], Some(PathFault::LongPath)),
+    (&[(1000, 1)], None),
+    (&[(1001, 1)], Some(PathFault::Deep)),
+    (&[(1001, 1), (1, 0)], Some(PathFault::BadName)),
+];
+
+#[test]
+fn a_text_has_its_first_fault_or_is_that_of_the_path_that_was_read(
+    rt: HostRuntime,
+) -> Result<(), Fail> {
+    let alloc = rt.alloc();
+    for (text, fault) in TEXTS {
+        assert!(rt; is_told(alloc, text, fault)?, "at {text:?}");
+    }
+    for (parts, fault) in LONG_TEXTS {
+        let text = letters(alloc, parts)?;
+        assert!(rt; is_told(alloc, &text, fault)?, "at {parts:?}");
+    }
+    Ok(())
+}
+
+fn letters(alloc: Global, parts: &[(usize, usize)]) -> Result<Vec<u8>, NoMemory> {
+    let mut text = Vec::new(alloc);
+    for (count, len) in parts {
+        for _ in 0..*count {
+            text.push(b'/')?;
+            for _ in 0..*len {
+                text.push(b'a')?;
+            }
+        }
+    }
+    Ok(text)
+}
+
+fn is_told(alloc: Global, text: &[u8], fault: Option<PathFault>) -> Result<bool, NoMemory> {
+    match Path::parse(alloc, text) {
+        Err(told) => Ok(fault == Some(told)),
+        Ok(path) => {
+            let mut written = Vec::new(alloc);
+            path.text(&mut written)?;
+            Ok(fault.is_none() && written.as_slice() == text)
+        }
+    }
+}
+
+#[test]
+fn each_fault_of_a_path_has_its_word(rt: HostRuntime) -> Result<(), Fail> {
+    let words = [
+        (PathFault::Empty, "empty"),
+        (PathFault::Relative, "relative"),
+        (PathFault::LongPath, "long-path"),
+        (PathFault::BadName, "bad-name"),
+        (PathFault::LongName, "long-name"),
+        (PathFault::Deep, "deep"),
+    ];
+    for (fault, word) in words {
+        let told = format!(in rt.alloc(); "{fault}")?;
+        assert!(rt; told.as_str() == word, "{word}");
     }
     Ok(())
 }
