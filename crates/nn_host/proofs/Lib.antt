@@ -7,3 +7,4 @@ pub mod CleanLemmas
 pub mod MomentsLemmas
 pub mod RunsLemmas
 pub mod WorkLemmas
+pub mod LeftLemmas

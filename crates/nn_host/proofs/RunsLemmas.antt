@@ -6,7 +6,7 @@ use Rattle.nn_host.specs.Disk.{Reads, Look}
 use Rattle.nn_host.specs.Moments.{Dir, Moment, State, Say, moment, disk_at, faults_at, Stops, Since}
 use Rattle.nn_host.specs.Calls.{Frame, IsCounted, Effect, Called, Spoke, next_count}
 use Rattle.nn_host.specs.Runs.{Throughout, Undisturbed, Untouched, OutWhole, SilentAfter, Looked, AllAnswered}
-use Rattle.nn_host.proofs.MomentsLemmas.{since_recorded, since_unrecorded, since_called, moment_recorded, moment_unrecorded, moment_called, frame_trans}
+use Rattle.nn_host.proofs.MomentsLemmas.{since_recorded, since_unrecorded, since_called, moment_recorded, moment_unrecorded, moment_called, frame_refl, frame_trans}
 
 -- runs of any fact
 
@@ -109,6 +109,10 @@ looked_once {T} {E} {told} {i} {old} {new} {result} called = record {
     same_reads : (r : Result T E) → Effect i Look old new r → is_ok r ≡ true → new.reads i ≡ old.reads i
     same_reads (Ok v) effect answered = effect.ok.reads
     same_reads (Err e) effect answered = cc
+
+-- nothing was asked yet
+pub looked_refl : {told : Type 0} {i : ℕ} {a : State} → Looked told i a a true
+looked_refl {told} {i} {a} = record { frame = frame_refl i a; counted = refl; untouched = untouched_refl; out = out_whole_refl; reads = λ tells is. refl }
 
 -- a look that was answered, and then further ones
 pub looked_then : {told : Type 0} {i : ℕ} {a b c : State} {answered : Bool} → Looked told i a b true → Looked told i b c answered → Looked told i a c answered

@@ -3,3 +3,4 @@ pub mod Listing
 pub mod Moments
 pub mod Calls
 pub mod Runs
+pub mod Sources

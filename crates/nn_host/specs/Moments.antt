@@ -66,7 +66,10 @@ pub record Left (s : State) (t : ℕ) (c : ℕ → Reads) (m : Moment) : Type 0 
   pub since : Since s t m
   pub leaves : (i : ℕ) → Leaves (m.dirs i).disk (c i)
 
--- what always holds of a host that tells: its disks are sound, and what reads is what a stop at this moment may leave
+-- what always holds of a host that tells: its disks are sound, what reads is what a stop at this moment may leave,
+-- and since the last recorded call ended, no disk has changed and nothing was said
 pub record IsLawful (s : State) : Type 0 where
   pub disks : (i : ℕ) → IsSound (disk_at s i)
   pub reads : (i : ℕ) → Leaves (disk_at s i) (s.reads i)
+  pub ended : (i : ℕ) → (s.ended.dirs i).disk ≡ disk_at s i
+  pub said : s.ended.said ≡ s.now.said
