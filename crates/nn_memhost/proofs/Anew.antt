@@ -1,22 +1,19 @@
 -- With what is given the record of calls begins anew.
-use Rattle.std.proofs.Common.{◌≡◌, ◌≢◌, ℕ, ◌≤◌, List, [], ◌∷◌, length, take, Option, Some, None, refl, sym, ◌∙◌, ap, subst, arith}
+use Rattle.std.proofs.Common.{◌≡◌, ℕ, List, [], length, take, Option, Some, None, refl, sym, ◌∙◌, ap, subst}
 use Rattle.std.specs.Prelude.{Bool, true, false, ◌&&◌, if◌then◌else◌, option_map}
-use Rattle.std.specs.Global.{Vec}
 use Rattle.std.proofs.Math.Seq.{take-length}
 use Rattle.nn_base.specs.declared.sub.Sub.{Sub}
 use Rattle.nn_base.specs.declared.file_name.FileName.{FileName}
 use Rattle.nn_base.specs.Names.{sub_eq, file_eq}
 use Rattle.nn_host.specs.Disk.{Held, Reads, certain}
-use Rattle.nn_memhost.specs.declared.counts.Counts.{Counts}
 use Rattle.nn_memhost.specs.declared.kept.KeptDir.{KeptDir}
 use Rattle.nn_memhost.specs.declared.mem.MemHost.{MemHost}
 use Rattle.nn_memhost.specs.declared.past.Logged.{Logged}
-use Rattle.nn_memhost.specs.Base.{base_of}
 use Rattle.nn_memhost.specs.Content.{Content, synced_content, file_of}
-use Rattle.nn_memhost.specs.Held.{disk_of, reads_of, settled, given, rootless}
+use Rattle.nn_memhost.specs.Held.{disk_of, reads_of, settled, given}
 use Rattle.nn_memhost.specs.Past.{kept_at, put_at, start, run, state_of}
-use Rattle.nn_memhost.specs.Given.{all_certain, with_given, no_reads, Anew}
-use Rattle.nn_memhost.specs.Mem.{past_of, mem_state}
+use Rattle.nn_memhost.specs.Given.{all_certain, with_given, Anew}
+use Rattle.nn_memhost.specs.Mem.{mem_state}
 use Rattle.nn_memhost.proofs.PastLemmas.{put_here, put_there}
 
 synced_shown : (x : Option Content) → option_map (λ (c : Content). c.bytes) (option_map synced_content x) ≡ option_map (λ (c : Content). c.bytes) x

@@ -1,10 +1,9 @@
 -- What a call in memory does, as the trait says it.
-use Rattle.std.proofs.Common.{◌≡◌, ◌≢◌, inl, inr, ℕ, List, [], ◌∷◌, ◌++◌, Option, Some, None, Result, Ok, Err, length, refl, sym, ◌∙◌, ap, subst}
+use Rattle.std.proofs.Common.{◌≡◌, ◌≢◌, inl, inr, ℕ, Option, Some, None, Result, Ok, Err, length, refl, sym, ◌∙◌, ap, subst}
 use Rattle.std.proofs.lemmas.List.{get_or-set_other}
 use Rattle.std.specs.Prelude.{slice_index, is_err, false, OnOk}
 use Rattle.nn_base.specs.declared.ids.DirNo.{DirNo}
-use Rattle.nn_host.specs.Disk.{Held, Disk, Reads, Broken, Leaves, IsSound, disk_after, reads_after}
-use Rattle.nn_host.specs.Moments.{Dir, State}
+use Rattle.nn_host.specs.Disk.{Held, Broken, Leaves, IsSound}
 use Rattle.nn_host.specs.Calls.{Called, Frame, next_count}
 use Rattle.nn_memhost.specs.declared.counts.Counts.{Counts}
 use Rattle.nn_memhost.specs.declared.asked.Asked.{Asked}
@@ -16,11 +15,12 @@ use Rattle.nn_memhost.specs.Asked.{call_of}
 use Rattle.nn_memhost.specs.Content.{Content}
 use Rattle.nn_memhost.specs.Counts.{raised}
 use Rattle.nn_memhost.specs.Held.{disk_of, reads_of, kept_left}
-use Rattle.nn_memhost.specs.Past.{Past, Standing, moment_of, put_at, one, state_of}
-use Rattle.nn_memhost.specs.Mem.{past_of, mem_state}
+use Rattle.nn_memhost.specs.Past.{Past, one, state_of}
+use Rattle.nn_memhost.specs.Mem.{past_of, mem_state, next_part}
 use Rattle.nn_memhost.specs.Lawful.{mem_lawful}
 use Rattle.nn_memhost.proofs.PastLemmas.{put_here, put_there}
-use Rattle.nn_memhost.proofs.ViewLemmas.{view_reads, view_disk, view_broken}
+use Rattle.nn_memhost.specs.Leaving.{LeavesAsListed}
+use Rattle.nn_memhost.proofs.ViewLemmas.{view_reads, view_disk, view_broken, view_reads_left, view_disk_left}
 
 -- the counts of the other directories stay
 others_stay : (i : ℕ) (counts : Counts) (j : ℕ) → j ≢ i → slice_index (raised i counts).dirs j ≡ slice_index counts.dirs j
@@ -113,6 +113,20 @@ module _ (m : MemHost) (i : DirNo) (asked : Asked) (later : Past) (count : ℕ) 
       (subst (λ (n : ℕ). Called {T = T} {E = E} told i.0 (call_of asked) (mem_state m) (state_of later (raised i.0 m.counts) n) (Err e)) (sym same_count)
       (subst (λ (p : Past). Called {T = T} {E = E} told i.0 (call_of asked) (mem_state m) (state_of p (raised i.0 m.counts) (length m.dirs.items)) (Err e)) (sym is)
       (starved (past_of m) i asked m.counts (length m.dirs.items) e (sym (ap (λ (c : Counts). slice_index c.dirs i.0) raise) ∙ here))))
+
+-- a call that was recorded leaves what the list says
+module _ (old new : MemHost) (i : DirNo) (asked : Asked) (failed : Option Part) (is : past_of new ≡ one (past_of old) (asking i asked failed old.counts)) (named : failed ≡ next_part old) where
+  at_once : (past_of new).now.kept i.0 ≡ kept_left (next_part old) (call_of asked) ((past_of old).now.kept i.0)
+  at_once =
+      ap (λ (p : Past). p.now.kept i.0) is
+      ∙ put_here i.0 (kept_left failed (call_of asked) ((past_of old).now.kept i.0)) (past_of old).now.kept
+      ∙ ap (λ (f : Option Part). kept_left f (call_of asked) ((past_of old).now.kept i.0)) named
+
+  pub leaves_listed : LeavesAsListed i.0 (call_of asked) old new
+  leaves_listed = record {
+    reads = λ more. ap (λ (h : Held Content). reads_of h) at_once ∙ view_reads_left (next_part old) (call_of asked) ((past_of old).now.kept i.0);
+    disk = λ more. ap (λ (h : Held Content). disk_of h) at_once ∙ view_disk_left (next_part old) (call_of asked) ((past_of old).now.kept i.0);
+  }
 
 -- what a call that didn't fail ensures
 pub on_ok : {T E P : Type 0} (r : Result T E) → is_err r ≡ false → OnOk r P → P

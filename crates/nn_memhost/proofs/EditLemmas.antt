@@ -1,6 +1,6 @@
 -- What one change to a list of files makes of it, by the place that was found.
-use Rattle.std.proofs.Common.{◌≡◌, inl, inr, ℕ, ◌<◌, ◌≤◌, ◌+◌, List, [], ◌∷◌, ◌++◌, length, get_or, map, take, Option, Some, None, is_some, refl, sym, ◌∙◌, ap, subst, arith}
-use Rattle.std.specs.Prelude.{Bool, true, false, not, filter, ◌&&◌, if◌then◌else◌, slice_set, option_map, nat_lt}
+use Rattle.std.proofs.Common.{◌≡◌, inl, inr, ℕ, ◌<◌, ◌≤◌, ◌+◌, List, [], ◌∷◌, ◌++◌, length, get_or, map, take, Option, Some, None, refl, sym, ◌∙◌, ap, arith}
+use Rattle.std.specs.Prelude.{Bool, true, false, not, filter, ◌&&◌, if◌then◌else◌, slice_set, option_map}
 use Rattle.std.specs.List.{position_or_len}
 use Rattle.std.proofs.lemmas.List.{map-set, length-map, map-append, take_more}
 use Rattle.std.proofs.Math.ListN.{get_or-map}
@@ -14,7 +14,7 @@ use Rattle.nn_memhost.specs.Content.{Content}
 use Rattle.nn_memhost.specs.Kept.{Placed, placed_of, content_of, fits, find_in, content_at}
 use Rattle.nn_memhost.proofs.FilesLemmas.{find_in-set, find_in-push, found, absent, same_if, fits_self, met, apart, mapped, mapped_at, mapped_more, length-mapped}
 
-placed_at : (fs : List KeptFile) (k : ℕ) (x : KeptFile) → x ≡ get_or fs k x → placed_of x ≡ get_or (map placed_of fs) k (placed_of x)
+pub placed_at : (fs : List KeptFile) (k : ℕ) (x : KeptFile) → x ≡ get_or fs k x → placed_of x ≡ get_or (map placed_of fs) k (placed_of x)
 placed_at fs k x is = ap placed_of is ∙ sym (get_or-map placed_of fs k x)
 
 module _ (s : Sub) (n : FileName) (fs : List KeptFile) (k : ℕ) (is : k ≡ position_or_len (fits s n) (map placed_of fs)) where

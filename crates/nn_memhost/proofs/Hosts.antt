@@ -1,13 +1,12 @@
 -- A host in memory after one of its parts was changed: what its record comes to, and that its contents are tied to it.
-use Rattle.std.proofs.Common.{◌≡◌, ◌≢◌, inl, inr, ℕ, ◌≤◌, ◌<◌, List, [], ◌∷◌, ◌++◌, length, take, Option, Some, None, refl, sym, ◌∙◌, ap}
-use Rattle.std.specs.Prelude.{if◌then◌else◌, ◌==◌, true, IsSome}
+use Rattle.std.proofs.Common.{◌≡◌, ℕ, ◌<◌, List, [], ◌∷◌, ◌++◌, length, take, Option, Some, None, refl, sym, ◌∙◌, ap}
+use Rattle.std.specs.Prelude.{true, IsSome}
 use Rattle.std.specs.Global.{Vec}
 use Rattle.std.proofs.Math.Path.{fun_ext}
 use Rattle.std.specs.List.{list_all}
 use Rattle.std.proofs.lemmas.Bool.{lt-ltb}
 use Rattle.nn_base.specs.declared.ids.DirNo.{DirNo}
 use Rattle.nn_host.specs.Disk.{Held}
-use Rattle.nn_memhost.specs.declared.counts.Counts.{Counts}
 use Rattle.nn_memhost.specs.declared.asked.Asked.{Asked}
 use Rattle.nn_memhost.specs.declared.kept.KeptDir.{KeptDir}
 use Rattle.nn_memhost.specs.declared.past.Logged.{Logged}

@@ -1,10 +1,10 @@
 -- A host that starts on what a stop leaves.
-use Rattle.std.proofs.Common.{◌≡◌, inl, inr, ℕ, zero, suc, ◌≤◌, ◌<◌, List, [], ◌∷◌, length, take, get_or, Option, Some, None, Result, Ok, Err, refl, sym, ◌∙◌, ap, subst, arith}
-use Rattle.std.specs.Prelude.{IfOk, slice_get, replicate, slice_index}
+use Rattle.std.proofs.Common.{◌≡◌, ◌⊎◌, inl, inr, ⊎_elim, drop, ℕ, zero, suc, ◌<◌, List, [], ◌∷◌, length, take, get_or, Some, Result, Ok, Err, refl, sym, ◌∙◌, ap, subst, arith}
+use Rattle.std.specs.Prelude.{IfOk, slice_get}
 use Rattle.std.specs.Global.{Vec}
 use Rattle.std.proofs.Math.Path.{fun_ext}
 use Rattle.nn_host.specs.Disk.{Held, Disk, Leaves}
-use Rattle.nn_host.specs.Moments.{Entry, State}
+use Rattle.nn_host.specs.Moments.{Moment, Entry, State, Left, Stops, Within}
 use Rattle.nn_memhost.specs.declared.kept.KeptDir.{KeptDir}
 use Rattle.nn_memhost.specs.declared.past.Logged.{Logged}
 use Rattle.nn_memhost.specs.declared.stop.Choice.{Choice}
@@ -12,11 +12,10 @@ use Rattle.nn_memhost.specs.declared.mem.MemHost.{MemHost}
 use Rattle.nn_memhost.specs.Content.{Content}
 use Rattle.nn_memhost.specs.Counts.{no_faults}
 use Rattle.nn_memhost.specs.Flight.{all_flight}
-use Rattle.nn_memhost.specs.Given.{all_certain}
 use Rattle.nn_memhost.specs.Held.{map_held, disk_of, reads_of}
-use Rattle.nn_memhost.specs.Left.{IsLeft, IsFresh}
+use Rattle.nn_memhost.specs.Left.{IsLeft}
 use Rattle.nn_memhost.specs.Past.{Past, Standing, kept_at, moment_of, event_of, start, run, state_of}
-use Rattle.nn_memhost.specs.Stop.{IsStop, stopped_content, left_by, moment_in, flown}
+use Rattle.nn_memhost.specs.Stop.{IsStop, stopped_content, left_by, flown, moment_in}
 use Rattle.nn_memhost.specs.Mem.{start_of, mem_state}
 use Rattle.nn_memhost.proofs.StopLemmas.{leaves_left, stopped_reads, all_flown, inside_entry, entry_at}
 
@@ -68,3 +67,17 @@ module _ (m : MemHost) (k : ℕ) (choice : Choice) (left : Vec KeptDir) (is : Is
           ap (λ (h : Held Content). reads_of h) (is.kept j)
           ∙ stopped_reads choice.keep (all_flight choice.done is.logged.request (run (start_of m) (take k m.calls.items)).now.kept j)
           ∙ ap (λ (d : Disk). left_by choice.keep d) (all_flown choice.done is.logged.request (run (start_of m) (take k m.calls.items)).now.kept j)
+
+-- what a stop inside call k leaves is what a stop since k may leave
+within_at : (es : List Entry) (k : ℕ) (e : Entry) (m : Moment) → slice_get es k ≡ Some e → (m ≡ e.before) ⊎ Stops e.event e.before m → Within (drop k es) m
+within_at [] k e m is inside = cc
+within_at (x ∷ es) zero e m is inside =
+    let same : x ≡ e = cc in
+    subst (λ (y : Entry). Within (y ∷ es) m) (sym same) (⊎_elim (λ before. inr (inl before)) (λ stopped. inr (inr (inl stopped))) inside)
+within_at (x ∷ es) (suc k) e m is inside = within_at es k e m is inside
+
+pub left_since : (k : ℕ) (choice : Choice) (old new : State) (stop : IsStop k choice old new) → Left old k new.reads (moment_in choice.done stop.entry)
+left_since k choice old new stop = record {
+  since = inr (inr (within_at old.trace k stop.entry (moment_in choice.done stop.entry) stop.call stop.inside));
+  leaves = stop.leaves;
+}

@@ -11,3 +11,4 @@ pub mod Anew
 pub mod Saying
 pub mod Looks
 pub mod Left
+pub mod NamesLemmas

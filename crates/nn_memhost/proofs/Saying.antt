@@ -1,5 +1,5 @@
 -- What is said to a host in memory, as the trait says it.
-use Rattle.std.proofs.Common.{◌≡◌, inl, inr, ℕ, ◌<◌, ◌≤◌, List, [], ◌∷◌, ◌++◌, Option, Some, None, Result, Ok, Err, refl, sym, ◌∙◌, ap, subst, arith, length, length-append, take}
+use Rattle.std.proofs.Common.{◌≡◌, inl, ℕ, ◌<◌, ◌≤◌, ◌+◌, List, [], ◌++◌, Option, Some, None, Ok, Err, refl, sym, ◌∙◌, ap, subst, arith, length, length-append, take}
 use Rattle.std.proofs.Math.Seq.{take-length}
 use Rattle.std.proofs.lemmas.List.{take-append-le}
 use Rattle.std.specs.Global.{Vec}
@@ -57,6 +57,9 @@ module _ (m : MemHost) (base : ℕ → Held Content) (based : (j : ℕ) → base
   pub one_more : run (start base (take m.said_before said) m.began) calls ≡ one (past_of m) (record { request = Say noted.copy; failed = failed; before = m.counts })
   one_more = (λ k. run (same_start k) (noted.noted k)) ∙ run-push (start_of m) m.calls.items (record { request = Say noted.copy; failed = failed; before = m.counts })
 
+  pub one_recorded : length (run (start base (take m.said_before said) m.began) calls).trace ≡ moment (mem_state m) + 1
+  one_recorded = ap (λ (p : Past). length p.trace) one_more ∙ length-append (past_of m).trace _
+
   pub all_said : (run (start base (take m.said_before said) m.began) calls).now.said ≡ said
   all_said = ap (λ (p : Past). p.now.said) one_more ∙ (λ k. m.spoken k ++ take (taken_of failed (noted.same k)) (noted.same k)) ∙ sym more
 
@@ -79,8 +82,9 @@ module _ (m : MemHost) (base : ℕ → Held Content) (based : (j : ℕ) → base
       (said_failed (past_of m) m.counts (length m.dirs.items) noted.copy part e)))
 
 -- without a call more nothing was recorded
-pub not_recorded : (m : MemHost) (p : Past) (calls : List Logged) → p.trace ≡ [] → calls ≡ m.calls.items → moment (mem_state m) < length (run p calls).trace → ⊥
-not_recorded m p calls none same more = omega (arith, ap length same, ap length none, trace_len (start_of m) m.calls.items, trace_len p calls)
+pub not_recorded : (m : MemHost) (p : Past) (calls : List Logged) (later : Past) → p.trace ≡ [] → calls ≡ m.calls.items → later ≡ run p calls → moment (mem_state m) < length later.trace → ⊥
+not_recorded m p calls later none same is more =
+    omega (arith, more, ap (λ (q : Past). length q.trace) is, ap length same, ap length none, trace_len (start_of m) m.calls.items, trace_len p calls)
 
 pub all_placed : (m : MemHost) (bytes : List ℕ) (failed : Option Part) (calls : List Logged) → NotedSaying bytes failed m.counts m.calls.items calls → list_all (is_below (length m.dirs.items)) calls ≡ true
 all_placed m bytes failed calls noted =

@@ -1,14 +1,12 @@
 -- What a stop leaves is what the disk model allows.
-use Rattle.std.proofs.Common.{◌≡◌, ◌≢◌, ◌⊎◌, inl, inr, ℕ, zero, suc, ◌≤◌, ◌<◌, ◌+◌, ◌-◌, ◌/◌, min, List, [], ◌∷◌, ◌++◌, length, take, get_or, Option, Some, None, refl, sym, ◌∙◌, ap, subst, arith, length-append}
+use Rattle.std.proofs.Common.{◌≡◌, ◌≢◌, ◌⊎◌, inl, inr, ℕ, zero, suc, ◌≤◌, ◌<◌, ◌+◌, ◌-◌, ◌/◌, min, List, [], ◌∷◌, ◌++◌, length, take, get_or, Option, Some, None, refl, sym, ◌∙◌, ap, arith, length-append}
 use Rattle.std.specs.Prelude.{Bool, true, false, ◌&&◌, ◌==◌, if◌then◌else◌, option_map, slice_get, slice_index}
 use Rattle.std.specs.List.{list_all}
 use Rattle.std.proofs.Math.Path.{fun_ext}
 use Rattle.std.proofs.lemmas.Bool.Decides.{eqb_tells}
 use Rattle.std.proofs.lemmas.List.{length-take, take_more, get_or-take}
-use Rattle.nn_base.specs.declared.sub.Sub.{Sub}
-use Rattle.nn_base.specs.declared.file_name.FileName.{FileName}
-use Rattle.nn_host.specs.Disk.{Held, Disk, Reads, File, Call, Look, MakeSub, MakeFile, Append, Sync, RenameFile, RenameSub, RemoveFile, RemoveSub, Settle, Leaves, LeavesFile, InFlight, carried_out}
-use Rattle.nn_host.specs.Moments.{Dir, Moment, Event, Entry, On, Say, Stops, SameBut}
+use Rattle.nn_host.specs.Disk.{Held, Disk, File, Call, Look, MakeSub, MakeFile, Append, Sync, RenameFile, RenameSub, RemoveFile, RemoveSub, Settle, Leaves, LeavesFile, InFlight, carried_out}
+use Rattle.nn_host.specs.Moments.{Dir, Moment, Event, Entry, On, Say, Stops}
 use Rattle.nn_host.proofs.MakesLemmas.{removed_part}
 use Rattle.nn_memhost.specs.declared.stop.Keep.{Keep}
 use Rattle.nn_memhost.specs.declared.stop.Keep.TheVariants as keep
@@ -19,12 +17,12 @@ use Rattle.nn_memhost.specs.declared.past.Request.{Request}
 use Rattle.nn_memhost.specs.declared.past.Request.TheVariants as request
 use Rattle.nn_memhost.specs.Asked.{call_of}
 use Rattle.nn_memhost.specs.Content.{Content, file_of}
-use Rattle.nn_memhost.specs.Held.{map_held, disk_of, reads_of, kept_after, kept_part, kept_left}
+use Rattle.nn_memhost.specs.Held.{map_held, disk_of, reads_of, kept_left}
 use Rattle.nn_memhost.specs.Part.{taken_of}
 use Rattle.nn_memhost.specs.Past.{Past, moment_of, event_of, put_at, after, one, run}
-use Rattle.nn_memhost.specs.Stop.{turned, stays, left_by, in_flight, flown, moment_in, stopped_content}
+use Rattle.nn_memhost.specs.Stop.{stays, left_by, in_flight, flown, moment_in, stopped_content}
 use Rattle.nn_memhost.specs.Flight.{kept_flight, all_flight}
-use Rattle.nn_memhost.proofs.PastLemmas.{trace_len, run-push}
+use Rattle.nn_memhost.proofs.PastLemmas.{run-push}
 use Rattle.nn_memhost.proofs.FilesLemmas.{both}
 use Rattle.nn_memhost.proofs.ViewLemmas.{view_disk, view_written}
 

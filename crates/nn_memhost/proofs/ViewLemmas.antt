@@ -1,17 +1,19 @@
 -- What each call makes of a kept directory is what it makes of its disk and of how it reads.
-use Rattle.std.proofs.Common.{◌≡◌, ◌⊎◌, inl, inr, ℕ, List, [], ◌++◌, length, take, Option, Some, None, is_some, refl, sym, ◌∙◌, ap, subst}
-use Rattle.std.specs.Prelude.{Bool, true, false, not, ◌&&◌, if◌then◌else◌, option_map}
+use Rattle.std.proofs.Common.{◌≡◌, inl, inr, ℕ, List, [], ◌++◌, length, take, Option, Some, None, is_some, refl, sym, ◌∙◌, ap, subst}
+use Rattle.std.specs.Prelude.{Bool, true, false, not, ◌&&◌, ◌/◌, if◌then◌else◌, option_map}
 use Rattle.std.proofs.Math.Seq.{take-length}
+use Rattle.std.proofs.lemmas.List.{append-nil}
 use Rattle.nn_base.specs.declared.sub.Sub.{Sub}
 use Rattle.nn_base.specs.declared.file_name.FileName.{FileName}
 use Rattle.nn_base.specs.Names.{sub_eq, file_eq}
 use Rattle.nn_base.proofs.NamesLemmas.{sub_tells, file_tells}
-use Rattle.nn_host.specs.Disk.{Held, Disk, Reads, File, Call, Look, MakeSub, MakeFile, Append, Sync, RenameFile, RenameSub, RemoveFile, RemoveSub, Settle, after, added, with_file, with_sub, fresh_file, add_pending, carried_out, disk_after, reads_after, certain, Broken, PartOf, IsSound}
+use Rattle.nn_host.specs.Disk.{Held, Disk, Reads, Call, Look, MakeSub, MakeFile, Append, Sync, RenameFile, RenameSub, RemoveFile, RemoveSub, Settle, after, added, with_file, with_sub, fresh_file, add_pending, carried_out, disk_after, reads_after, certain, Broken, PartOf, IsSound}
 use Rattle.nn_host.proofs.MakesLemmas.{removed_part}
 use Rattle.nn_memhost.specs.declared.past.Part.{Part}
 use Rattle.nn_memhost.specs.declared.past.Part.TheVariants.{Nothing, Half, All}
 use Rattle.nn_memhost.specs.Content.{Content, fresh_content, synced_content, grown, file_of}
 use Rattle.nn_memhost.specs.Held.{map_held, disk_of, reads_of, add_content, kept_after, kept_part, kept_left, written}
+use Rattle.nn_memhost.specs.Leaving.{reads_left, disk_left, reads_after_half, disk_undone}
 use Rattle.nn_memhost.specs.Part.{taken_of}
 
 module _ {A B : Type 0} (f : A → B) where
@@ -147,3 +149,61 @@ pub view_broken : (part : Part) (call : Call) (h : Held Content) → IsSound (di
 view_broken All call h sound = broken_done call (reads_of h) (disk_of h) (disk_of (kept_after call h)) (view_disk call h)
 view_broken Half call h sound = broken_part Half call h sound
 view_broken Nothing call h sound = broken_part Nothing call h sound
+
+-- a call of the list
+
+written_reads : (count : ℕ) (bytes : List ℕ) (x : Option Content) → option_map (λ (c : Content). c.bytes) (option_map (grown count bytes) x) ≡ added (λ (old more : List ℕ). old ++ more) (take count bytes) (option_map (λ (c : Content). c.bytes) x)
+written_reads count bytes None = refl
+written_reads count bytes (Some c) = refl
+
+unwritten_reads : (bytes : List ℕ) (x : Option Content) → option_map (λ (c : Content). c.bytes) (option_map (grown 0 bytes) x) ≡ option_map (λ (c : Content). c.bytes) x
+unwritten_reads bytes None = refl
+unwritten_reads bytes (Some c) = ap (λ (l : List ℕ). Some l) (append-nil c.bytes)
+
+view_half : (call : Call) (h : Held Content) → reads_of (kept_part Half call h) ≡ reads_after_half call (reads_of h)
+view_half (Append s n bytes) h = held_file (λ (c : Content). c.bytes) h s n _ ∙ (λ i. with_file (reads_of h) s n (written_reads (length bytes / 2) bytes (h.file s n) i))
+view_half Look h = refl
+view_half (MakeSub s) h = refl
+view_half (MakeFile s n) h = refl
+view_half (Sync s n) h = refl
+view_half (RenameFile s a b) h = refl
+view_half (RenameSub a b) h = refl
+view_half (RemoveFile s n) h = refl
+view_half (RemoveSub s) h = refl
+view_half Settle h = refl
+
+view_nothing : (call : Call) (h : Held Content) → reads_of (kept_part Nothing call h) ≡ reads_of h
+view_nothing (Append s n bytes) h = held_file (λ (c : Content). c.bytes) h s n _ ∙ (λ i. with_file (reads_of h) s n (unwritten_reads bytes (h.file s n) i)) ∙ same_file (reads_of h) s n
+view_nothing Look h = refl
+view_nothing (MakeSub s) h = refl
+view_nothing (MakeFile s n) h = refl
+view_nothing (Sync s n) h = refl
+view_nothing (RenameFile s a b) h = refl
+view_nothing (RenameSub a b) h = refl
+view_nothing (RemoveFile s n) h = refl
+view_nothing (RemoveSub s) h = refl
+view_nothing Settle h = refl
+
+view_undone : (part : Part) (call : Call) (h : Held Content) → disk_of (kept_part part call h) ≡ disk_undone call (disk_of h)
+view_undone part (Append s n bytes) h = view_written (taken_of (Some part) bytes) s n bytes h
+view_undone part Look h = refl
+view_undone part (MakeSub s) h = refl
+view_undone part (MakeFile s n) h = refl
+view_undone part (Sync s n) h = refl
+view_undone part (RenameFile s a b) h = refl
+view_undone part (RenameSub a b) h = refl
+view_undone part (RemoveFile s n) h = refl
+view_undone part (RemoveSub s) h = refl
+view_undone part Settle h = refl
+
+pub view_reads_left : (failed : Option Part) (call : Call) (h : Held Content) → reads_of (kept_left failed call h) ≡ reads_left failed call (reads_of h)
+view_reads_left None call h = view_reads call h
+view_reads_left (Some All) call h = view_reads call h
+view_reads_left (Some Half) call h = view_half call h
+view_reads_left (Some Nothing) call h = view_nothing call h
+
+pub view_disk_left : (failed : Option Part) (call : Call) (h : Held Content) → disk_of (kept_left failed call h) ≡ disk_left failed call (reads_of h) (disk_of h)
+view_disk_left None call h = view_disk call h
+view_disk_left (Some All) call h = view_disk call h
+view_disk_left (Some Half) call h = view_undone Half call h
+view_disk_left (Some Nothing) call h = view_undone Nothing call h

@@ -1,9 +1,7 @@
 -- The contents at the beginning of a record of calls: as they are now, until a call has changed them.
-use Rattle.std.specs.Prelude.{◌≡◌, ◌≢◌, ℕ, ◌∷◌, [], ◌++◌, List, length, Option, Some, None}
+use Rattle.std.specs.Prelude.{List, Option, Some, None}
 use Rattle.std.specs.Global.{Vec}
 use Rattle.nn_memhost.specs.declared.kept.KeptDir.{KeptDir}
-use Rattle.nn_memhost.specs.declared.past.Logged.{Logged}
-use Rattle.nn_memhost.specs.Past.{kept_at}
 
 abbrev pub base_of : Option (Vec KeptDir) → List KeptDir → List KeptDir
 base_of None dirs = dirs

@@ -1,5 +1,5 @@
 -- The files and the subfolders of a directory that is kept in memory.
-use Rattle.std.specs.Prelude.{ℕ, Bool, false, List, [], ◌∷◌, ◌&&◌, Option, Some, None, if◌then◌else◌, map, take, slice_index_or}
+use Rattle.std.specs.Prelude.{Bool, false, List, [], ◌∷◌, ◌&&◌, Option, Some, None, if◌then◌else◌, map, take, slice_index_or}
 use Rattle.nn_base.specs.declared.sub.Sub.{Sub}
 use Rattle.nn_base.specs.declared.file_name.FileName.{FileName}
 use Rattle.nn_base.specs.Names.{sub_eq, sub_code, file_eq}

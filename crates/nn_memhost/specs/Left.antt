@@ -1,5 +1,5 @@
 -- The contents for a stop, and a host that starts on them.
-use Rattle.std.specs.Prelude.{◌≡◌, ◌<◌, ℕ, List, [], length, take, slice_get, Some}
+use Rattle.std.specs.Prelude.{◌≡◌, ℕ, [], length, take, slice_get, Some}
 use Rattle.std.specs.Global.{Vec}
 use Rattle.nn_host.specs.Moments.{State, disk_at, faults_at}
 use Rattle.nn_memhost.specs.declared.kept.KeptDir.{KeptDir}

@@ -8,7 +8,10 @@ pub mod Past
 pub mod Base
 pub mod Given
 pub mod Mem
+pub mod Leaving
 pub mod Lawful
 pub mod Stop
 pub mod Flight
 pub mod Left
+pub mod Names
+pub mod Source

@@ -1,7 +1,7 @@
 -- What a record of calls comes to, from the contents at its beginning.
 use Rattle.std.specs.Prelude.{◌≡◌, ℕ, ◌==◌, nat_lt, Bool, true, List, [], ◌∷◌, ◌++◌, take, map, Option, Some, None, slice_index, slice_index_or, if◌then◌else◌}
 use Rattle.std.specs.Global.{Vec}
-use Rattle.nn_host.specs.Disk.{Held, Reads}
+use Rattle.nn_host.specs.Disk.{Held}
 use Rattle.nn_host.specs.Moments.{Moment, Event, On, Say, Entry, State}
 use Rattle.nn_memhost.specs.declared.counts.Counts.{Counts}
 use Rattle.nn_memhost.specs.declared.kept.KeptDir.{KeptDir}

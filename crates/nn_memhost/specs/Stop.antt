@@ -1,7 +1,7 @@
 -- What a stop inside a recorded call leaves, by the choice of what took place and of what stays.
-use Rattle.std.specs.Prelude.{◌≡◌, ◌⊎◌, ◌-◌, ◌/◌, ◌==◌, ℕ, Bool, true, false, List, [], ◌∷◌, ◌++◌, length, take, slice_index, slice_get, Option, Some, None, option_map, if◌then◌else◌}
-use Rattle.nn_host.specs.Disk.{Held, Disk, Reads, File, Call, Look, MakeSub, MakeFile, Append, Sync, RenameFile, RenameSub, RemoveFile, RemoveSub, Settle, Leaves, carried_out}
-use Rattle.nn_host.specs.Moments.{Dir, Moment, Event, On, Say, Entry, State, Stops}
+use Rattle.std.specs.Prelude.{◌≡◌, ◌⊎◌, ◌-◌, ◌/◌, ◌==◌, ℕ, Bool, List, [], ◌∷◌, ◌++◌, length, take, slice_index, slice_get, Some, option_map, if◌then◌else◌}
+use Rattle.nn_host.specs.Disk.{Disk, Reads, File, Call, Look, MakeSub, MakeFile, Append, Sync, RenameFile, RenameSub, RemoveFile, RemoveSub, Settle, Leaves, carried_out}
+use Rattle.nn_host.specs.Moments.{Moment, Event, On, Say, Entry, State, Stops}
 use Rattle.nn_memhost.specs.declared.stop.Keep.{Keep}
 use Rattle.nn_memhost.specs.declared.stop.Keep.TheVariants as keep
 use Rattle.nn_memhost.specs.declared.stop.Choice.{Choice}

@@ -1,5 +1,5 @@
 // A name directory as it is kept in memory.
-mod file;
+pub mod file;
 pub mod files;
 
 ghost use Rattle.std.specs.Prelude.{◌≡◌, ℕ, ◌+◌, ◌≤◌, ◌<◌, ◌++◌, true, false, Some, None, OnOk, OnErr, IfOk, is_some, length, if◌then◌else◌};

@@ -2,9 +2,9 @@
 ghost use Rattle.std.specs.Prelude.{◌≡◌, ◌<◌};
 ghost use Rattle.nn_memhost.specs.Mem.{mem_state};
 
-use crate::{Choice, Keep, MemHost, Part, StopFault};
-use nn_base::{DirNo, FileName, NoMemory, Sub};
-use nn_host::{Failed, Host};
+use crate::{Choice, Keep, MemHost, MemSource, Part, StopFault};
+use nn_base::{DirNo, FileName, NoMemory, Sub, Txid};
+use nn_host::{Failed, Host, Source};
 
 // Writes VERSION the safe way: under another name, synced, renamed. These are calls 0 to 4.
 fn save(host: &mut MemHost, text: &[u8]) -> Result<(), Failed>
@@ -84,11 +84,32 @@ fn a_stop_inside_any_call_leaves_the_old_name_or_the_new(rt: HostRuntime) -> Res
 }
 
 #[test]
-fn calls_of_the_list_fail_and_leave_their_part(rt: HostRuntime) -> Result<(), NoMemory> {
-    let fails = Vec::from_array(rt.alloc(), [(2, Part::Half)])?;
-    let mut host = MemHost::new(rt.alloc(), 1, fails)?;
-    assert_eq!(rt; save(&mut host, b"abcde"), Err(Failed));
-    assert_eq!(rt; size_of(&mut host, FileName::VersionTmp), Ok(2));
+fn a_call_of_the_list_fails_and_leaves_its_part(rt: HostRuntime) -> Result<(), NoMemory> {
+    // Call, what it is to leave, and then the sizes of VERSION.tmp and VERSION.
+    let cases = [
+        (1, Part::Half, 99, 99),
+        (1, Part::All, 0, 99),
+        (2, Part::Nothing, 0, 99),
+        (2, Part::Half, 2, 99),
+        (2, Part::All, 5, 99),
+        (4, Part::Half, 5, 99),
+        (4, Part::All, 99, 5),
+    ];
+    for (k, part, tmp, version) in cases {
+        let fails = Vec::from_array(rt.alloc(), [(k, part)])?;
+        let mut host = MemHost::new(rt.alloc(), 1, fails)?;
+        assert_eq!(rt; save(&mut host, b"abcde"), Err(Failed));
+        assert_eq!(rt; host.calls(), k + 1);
+        assert_eq!(rt; size_of(&mut host, FileName::VersionTmp), Ok(tmp));
+        assert_eq!(rt; size_of(&mut host, FileName::Version), Ok(version));
+    }
+    Ok(())
+}
+
+#[test]
+fn given_contents_begin_the_record_anew(rt: HostRuntime) -> Result<(), NoMemory> {
+    let mut host = MemHost::new(rt.alloc(), 1, Vec::new(rt.alloc()))?;
+    assert!(rt; save(&mut host, b"abcde").is_ok());
     assert!(rt;
         host.with_file(DirNo(0), Sub::Previous, FileName::Seen, b"7")
             .is_ok()
@@ -97,5 +118,58 @@ fn calls_of_the_list_fail_and_leave_their_part(rt: HostRuntime) -> Result<(), No
     assert_eq!(rt; host.has_sub(DirNo(0), Sub::Previous), Ok(true));
     host.without_root(DirNo(0));
     assert_eq!(rt; host.has_root(DirNo(0)), Ok(false));
+    Ok(())
+}
+
+#[test]
+fn a_failed_read_takes_nothing_from_the_text(rt: HostRuntime) -> Result<(), NoMemory> {
+    let text = Vec::from_slice(rt.alloc(), b"abcdef")?;
+    let mut source = MemSource::new(text, Vec::from_array(rt.alloc(), [1])?);
+    // The room of a read, its answer, and what stands in the room afterwards.
+    let reads = [
+        (2, Ok(2), [b'a', b'b', 0, 0]),
+        (2, Err(Failed), [0, 0, 0, 0]),
+        (3, Ok(3), [b'c', b'd', b'e', 0]),
+        (0, Ok(0), [0, 0, 0, 0]),
+        (4, Ok(1), [b'f', 0, 0, 0]),
+        (4, Ok(0), [0, 0, 0, 0]),
+    ];
+    for (room, answer, held) in reads {
+        let mut out = [0; 4];
+        assert_eq!(rt; source.take(&mut out[..4.min(room)]), answer);
+        assert_eq!(rt; out, held);
+    }
+    assert_eq!(rt; source.calls(), 6);
+    Ok(())
+}
+
+#[test]
+fn names_are_listed_in_the_order_of_their_texts(rt: HostRuntime) -> Result<(), NoMemory> {
+    let mut host = MemHost::new(rt.alloc(), 1, Vec::new(rt.alloc()))?;
+    assert!(rt;
+        host.with_file(DirNo(0), Sub::Current, FileName::Seen, b"0")
+            .is_ok()
+    );
+    assert!(rt;
+        host.with_file(DirNo(0), Sub::Current, FileName::Md5(Txid(9)), b"")
+            .is_ok()
+    );
+    assert!(rt;
+        host.with_file(DirNo(0), Sub::Current, FileName::Image(Txid(10)), b"")
+            .is_ok()
+    );
+    assert!(rt;
+        host.with_file(DirNo(0), Sub::Current, FileName::Version, b"")
+            .is_ok()
+    );
+    let mut names = Vec::new(rt.alloc());
+    assert_eq!(rt; host.list(DirNo(0), Sub::Current, &mut names), Ok(()));
+    let ordered = [
+        FileName::Version,
+        FileName::Md5(Txid(9)),
+        FileName::Image(Txid(10)),
+        FileName::Seen,
+    ];
+    assert!(rt; names.as_slice() == ordered.as_slice());
     Ok(())
 }

@@ -14,7 +14,7 @@ use crate::stop::Keep;
 use nn_base::{FileName, NoMemory, Sub};
 use std::alloc::Global;
 
-fn same_sub(a: Sub, b: Sub) -> bool
+pub fn same_sub(a: Sub, b: Sub) -> bool
     ensures { result ≡ sub_eq a b }
 {
     a == b
@@ -81,8 +81,8 @@ pub fn read_at(files: &[KeptFile], sub: Sub, name: &FileName, at: u64, out: &mut
     copy_from(&file.bytes, at, out)
 }
 
-// Copies bytes from `at` on to the front of `out`, and says how many.
-fn copy_from(bytes: &[u8], at: u64, out: &mut [u8]) -> usize
+/// Copies bytes from `at` on to the front of `out`, and says how many.
+pub fn copy_from(bytes: &[u8], at: u64, out: &mut [u8]) -> usize
     ensures within { result ≤ length out.old }
     ensures value { IsRead (Some bytes.now) at result out.old out.new }
 {

@@ -1,9 +1,8 @@
-use Rattle.std.proofs.Common.{◌≡◌, ◌∙◌, ap, sym, ℕ, length, arith}
 use Rattle.std.proofs.lemmas.Result.{on_ok_weaker, on_err_weaker}
 use Rattle.nn_host.specs.Disk.{Held}
 use Rattle.nn_memhost.specs.Asked.{call_of}
 use Rattle.nn_memhost.specs.Content.{Content}
-use Rattle.nn_memhost.specs.Held.{kept_left, given, rootless}
+use Rattle.nn_memhost.specs.Held.{kept_left}
 use Rattle.nn_memhost.proofs.DirsLemmas.{kept_at-set, kept_at-same}
 use Rattle.nn_memhost.proofs.dirs.carry_at.Goals as goal
 

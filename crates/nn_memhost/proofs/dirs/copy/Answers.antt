@@ -1,4 +1,4 @@
-use Rattle.std.proofs.Common.{◌≡◌, ◌∙◌, ap, map, List}
+use Rattle.std.proofs.Common.{◌∙◌, ap, map, List}
 use Rattle.nn_memhost.specs.declared.kept.KeptDir.{KeptDir}
 use Rattle.nn_memhost.specs.Held.{held_of}
 use Rattle.nn_memhost.proofs.DirsLemmas.{dir_copied}

@@ -1,4 +1,3 @@
-use Rattle.std.proofs.Common.{◌≡◌, ◌∙◌, ap, sym}
 use Rattle.std.proofs.lemmas.Result.{on_ok_weaker}
 use Rattle.nn_host.specs.Disk.{Held}
 use Rattle.nn_memhost.specs.Asked.{call_of}

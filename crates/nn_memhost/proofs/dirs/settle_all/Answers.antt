@@ -1,4 +1,4 @@
-use Rattle.std.proofs.Common.{◌≡◌, ◌<◌, ◌∙◌, ℕ, length, arith, length-set}
+use Rattle.std.proofs.Common.{◌<◌, ◌∙◌, length, arith, length-set}
 use Rattle.nn_memhost.proofs.DirsLemmas.{settled_more, settled_rest}
 use Rattle.nn_memhost.proofs.dirs.settle_all.Goals as goal
 

@@ -1,6 +1,4 @@
-use Rattle.std.proofs.Common.{◌≡◌, ◌∙◌, sym, ap, inl, inr, is_some, List}
-use Rattle.std.specs.Prelude.{true, false}
-use Rattle.nn_base.specs.Names.{file_eq}
+use Rattle.std.proofs.Common.{◌∙◌, sym, ap, inl, inr, is_some, List}
 use Rattle.nn_base.proofs.NamesLemmas.{file_tells}
 use Rattle.nn_memhost.specs.declared.kept.file.KeptFile.{KeptFile}
 use Rattle.nn_memhost.specs.Kept.{content_at}

@@ -1,4 +1,4 @@
-use Rattle.std.proofs.Common.{◌≡◌, is_some, drop, map}
+use Rattle.std.proofs.Common.{◌≡◌, is_some, drop}
 use Rattle.nn_memhost.specs.Kept.{content_at}
 use Rattle.nn_memhost.proofs.kept.files.has.Given as goal
 

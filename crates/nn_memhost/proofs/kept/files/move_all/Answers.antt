@@ -1,9 +1,7 @@
-use Rattle.std.proofs.Common.{◌≡◌, ◌<◌, ◌≤◌, ◌∙◌, ◌+◌, length, map, ap, sym, refl, rules, List, arith}
+use Rattle.std.proofs.Common.{◌≡◌, ◌∙◌, length, map, ap, List, arith}
 use Rattle.std.proofs.lemmas.List.{length-map}
-use Rattle.nn_memhost.specs.declared.kept.file.KeptFile.{KeptFile}
-use Rattle.nn_memhost.specs.Content.{synced_content}
-use Rattle.nn_memhost.specs.Kept.{Placed, placed_of, content_of, fits, find_in, content_at}
-use Rattle.nn_memhost.proofs.FilesLemmas.{synced_placed, renamed, moved, mapped, mapped_none, mapped_all, find_in-synced, find_in-renamed, find_in-moved}
+use Rattle.nn_memhost.specs.Kept.{Placed, placed_of, find_in}
+use Rattle.nn_memhost.proofs.FilesLemmas.{moved, mapped_none, mapped_all, find_in-moved}
 use Rattle.nn_memhost.proofs.EditLemmas.{one_changed, same_len}
 use Rattle.nn_memhost.proofs.kept.files.move_all.Goals as goal
 

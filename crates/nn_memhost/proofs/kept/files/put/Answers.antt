@@ -1,10 +1,8 @@
-use Rattle.std.proofs.Common.{◌≡◌, ◌<◌, ◌≤◌, ◌∙◌, ◌+◌, length, map, ap, sym, refl, rules, List, arith}
+use Rattle.std.proofs.Common.{◌≡◌, ◌<◌, ◌≤◌, ◌∙◌, length, map, ap, refl, List, arith}
 use Rattle.std.specs.List.{position_or_len}
-use Rattle.std.proofs.lemmas.Result.{on_ok_weaker, on_err_weaker}
 use Rattle.nn_memhost.specs.declared.kept.file.KeptFile.{KeptFile}
-use Rattle.nn_memhost.specs.Content.{grown, synced_content}
-use Rattle.nn_memhost.specs.Kept.{Placed, placed_of, content_of, fits, find_in, content_at}
-use Rattle.nn_memhost.proofs.EditLemmas.{edited, unedited, same_content, put_there, put_behind, one_changed}
+use Rattle.nn_memhost.specs.Kept.{placed_of, fits, content_at}
+use Rattle.nn_memhost.proofs.EditLemmas.{put_there, put_behind}
 use Rattle.nn_memhost.proofs.kept.files.put.Goals as goal
 
 pub returns-then-k-len-clause-ok : goal.returns-then-k-len-clause-ok

@@ -1,4 +1,4 @@
-use Rattle.std.proofs.Common.{◌≡◌, ◌∙◌, ℕ, List, Option, Some, None, sym, ap, subst, refl, arith}
+use Rattle.std.proofs.Common.{ℕ, List, Option, Some, sym, subst, refl, arith}
 use Rattle.std.specs.Prelude.{option_map}
 use Rattle.nn_host.specs.Listing.{IsRead}
 use Rattle.nn_memhost.specs.Content.{Content}

@@ -1,11 +1,8 @@
-use Rattle.std.proofs.Common.{◌≡◌, ◌<◌, ◌≤◌, ◌∙◌, ◌+◌, length, map, ap, sym, refl, rules, List, arith}
-use Rattle.std.proofs.lemmas.List.{length-map}
+use Rattle.std.proofs.Common.{◌∙◌, ap, rules, List}
 use Rattle.std.proofs.lemmas.Fn.{filter_same}
 use Rattle.nn_memhost.specs.declared.kept.file.KeptFile.{KeptFile}
-use Rattle.nn_memhost.specs.Content.{synced_content}
-use Rattle.nn_memhost.specs.Kept.{Placed, placed_of, content_of, fits, find_in, content_at}
-use Rattle.nn_memhost.proofs.FilesLemmas.{synced_placed, renamed, moved, mapped, mapped_none, mapped_all, find_in-synced, find_in-renamed, find_in-moved}
-use Rattle.nn_memhost.proofs.EditLemmas.{one_changed, content_at-remove, content_at-remove_all}
+use Rattle.nn_memhost.specs.Kept.{content_at}
+use Rattle.nn_memhost.proofs.EditLemmas.{content_at-remove}
 use Rattle.nn_memhost.proofs.kept.files.remove.Goals as goal
 
 pub returns : goal.returns

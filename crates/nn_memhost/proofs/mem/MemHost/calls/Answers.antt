@@ -1,4 +1,4 @@
-use Rattle.std.proofs.Common.{length, arith}
+use Rattle.std.proofs.Common.{arith}
 use Rattle.nn_memhost.specs.Mem.{start_of}
 use Rattle.nn_memhost.proofs.PastLemmas.{trace_len}
 use Rattle.nn_memhost.proofs.mem.MemHost.calls.Goals as goal

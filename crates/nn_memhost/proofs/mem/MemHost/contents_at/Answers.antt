@@ -1,5 +1,5 @@
 use Rattle.nn_memhost.proofs.Left.{is_left, get_read}
-use Rattle.std.proofs.Common.{◌≡◌, ◌∙◌, ap, List, length}
+use Rattle.std.proofs.Common.{◌∙◌, ap, List, length}
 use Rattle.nn_memhost.specs.declared.kept.KeptDir.{KeptDir}
 use Rattle.nn_memhost.proofs.mem.MemHost.contents_at.Goals as goal
 

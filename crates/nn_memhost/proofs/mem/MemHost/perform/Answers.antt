@@ -1,4 +1,4 @@
-use Rattle.std.proofs.Common.{◌≡◌, ◌∙◌, ap, sym, length, ◌++◌, ◌∷◌, [], List, arith}
+use Rattle.std.proofs.Common.{◌∙◌, ap, sym, length, ◌++◌, ◌∷◌, [], List, arith}
 use Rattle.nn_memhost.specs.declared.past.Logged.{Logged}
 use Rattle.nn_memhost.specs.declared.kept.KeptDir.{KeptDir}
 use Rattle.nn_memhost.specs.Base.{base_of}

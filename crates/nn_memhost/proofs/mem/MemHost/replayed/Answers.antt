@@ -1,5 +1,5 @@
-use Rattle.std.proofs.Common.{◌≡◌, ◌∙◌, ◌<◌, ap, sym, ℕ, length, get_or, take, arith}
-use Rattle.nn_memhost.specs.Past.{Past, kept_at, one, run}
+use Rattle.std.proofs.Common.{◌∙◌, ap, take}
+use Rattle.nn_memhost.specs.Past.{Past, kept_at, run}
 use Rattle.nn_memhost.specs.Mem.{start_of}
 use Rattle.nn_memhost.proofs.StopLemmas.{after_kept, run-take_more, among_first}
 use Rattle.nn_memhost.proofs.mem.MemHost.replayed.Goals as goal

@@ -1,4 +1,4 @@
-use Rattle.std.proofs.Common.{◌≡◌, sym, subst, arith, [], List, length}
+use Rattle.std.proofs.Common.{sym, subst, arith, [], List, length}
 use Rattle.nn_memhost.specs.declared.counts.Counts.{Counts}
 use Rattle.nn_memhost.specs.declared.past.Logged.{Logged}
 use Rattle.nn_memhost.specs.Counts.{no_faults}

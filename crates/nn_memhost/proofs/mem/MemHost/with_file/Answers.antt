@@ -1,5 +1,5 @@
 use Rattle.std.proofs.Common.{◌≡◌, ◌∙◌, ap, sym, ℕ, List, length, arith}
-use Rattle.nn_host.specs.Disk.{Held, Reads}
+use Rattle.nn_host.specs.Disk.{Held}
 use Rattle.nn_memhost.specs.Content.{Content}
 use Rattle.nn_memhost.specs.Given.{with_given}
 use Rattle.nn_memhost.specs.Held.{reads_of, settled, given}

@@ -1,4 +1,4 @@
-use Rattle.std.proofs.Common.{◌≡◌, ◌∙◌, ap, subst, List, ℕ, Option}
+use Rattle.std.proofs.Common.{◌∙◌, ap, subst, List, ℕ, Option}
 use Rattle.std.specs.Prelude.{option_map}
 use Rattle.nn_host.specs.Disk.{Reads}
 use Rattle.nn_host.specs.Listing.{IsRead}
@@ -6,7 +6,7 @@ use Rattle.nn_memhost.specs.declared.kept.file.KeptFile.{KeptFile}
 use Rattle.nn_memhost.specs.Content.{Content}
 use Rattle.nn_memhost.specs.Kept.{content_at}
 use Rattle.nn_memhost.proofs.Looks.{reads_is}
-use Rattle.nn_memhost.proofs.mem.MemHostHost.read_at.Goals as goal
+use Rattle.nn_memhost.proofs.mem.calls.MemHostHost.read_at.Goals as goal
 
 pub returns-clause-value : goal.returns-clause-value
 returns-clause-value c = λ tells.
