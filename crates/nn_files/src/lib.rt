@@ -1,5 +1,5 @@
-//! The host over real folders and the real output: what each call does to the disk, and which folder it syncs. A caller may rely on the trait `Host` as of a host that tells nothing.
-//! It knows nothing of what the files mean, nor of what a run makes of a failure.
+//! The host over real folders and the real output, with which folder each call syncs, and the source over standard input.
+//! Both tell nothing but their counts of faults, and know nothing of what the bytes mean.
 #![tactic(auto)]
 
 mod changes;
@@ -8,7 +8,9 @@ mod listing;
 mod looks;
 mod paths;
 mod segment;
+mod source;
 #[cfg(test)]
 mod tests;
 
 pub use host::FileHost;
+pub use source::StdSource;

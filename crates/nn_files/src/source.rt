@@ -1,0 +1,48 @@
+// The source over standard input.
+#[cfg(test)]
+mod tests;
+
+ghost use Rattle.std.specs.Prelude.{◌≡◌, []};
+
+use crate::looks::read_some;
+use nn_host::{Failed, Source};
+
+/// A script that comes by the standard input of `rt`. It tells nothing.
+///
+/// A read that the system refuses is `Failed`; one that a signal interrupts is tried again. A read may give fewer bytes
+/// than there are.
+#[derive(Drop)]
+pub struct StdSource<R: Input> {
+    reader: R::Reader,
+    faults: u64,
+}
+
+impl<R: Input + Drop> StdSource<R> {
+    /// The standard input of `rt`, from where it stands. Nothing is read yet.
+    pub fn new(rt: &R) -> StdSource<R>
+        ensures { ⟦<StdSource<R> as Source>⟧.faults result ≡ 0 }
+    {
+        StdSource {
+            reader: rt.reader(),
+            faults: 0,
+        }
+    }
+}
+
+impl<R: Input + Drop> Source for StdSource<R> {
+    ghost told = { ⊥ };
+
+    ghost left = { λ it. [] };
+
+    ghost faults = { λ it. it.faults };
+
+    fn take(&mut self, out: &mut [u8]) -> Result<usize, Failed> {
+        match read_some(&mut self.reader, out) {
+            Ok(count) => Ok(count),
+            Err(_) => {
+                self.faults = self.faults.saturating_add(1);
+                Err(Failed)
+            }
+        }
+    }
+}
