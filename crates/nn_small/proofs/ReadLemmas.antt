@@ -1,21 +1,15 @@
 -- Reading a file whole.
-use Rattle.std.proofs.Common.{◌≡◌, ◌⊎◌, ⊎_elim, ℕ, ◌≤◌, List, ◌++◌, length, take, Bool, true, false, Option, Result, Ok, Err, refl, sym, ◌∙◌, ap, subst, arith}
+use Rattle.std.proofs.Common.{◌≡◌, ◌⊎◌, ⊎_elim, ℕ, ◌≤◌, List, ◌++◌, length, take, Bool, true, false, Option, Result, Ok, Err, sym, ◌∙◌, ap, subst, arith}
 use Rattle.std.specs.Prelude.{IsErrAnd}
 use Rattle.std.proofs.lemmas.List.{take_all, take_at}
 use Rattle.nn_host.specs.Listing.{bytes_of, IsRead}
 use Rattle.nn_host.specs.Moments.{State}
 use Rattle.nn_host.specs.Runs.{Looked}
-use Rattle.nn_host.proofs.MomentsLemmas.{frame_refl}
-use Rattle.nn_host.proofs.RunsLemmas.{untouched_refl, out_whole_refl}
 use Rattle.nn_small.specs.Whole.{answered}
 use Rattle.nn_small.specs.declared.read.ReadAll.{ReadAll}
 use Rattle.nn_small.specs.declared.read.ReadAll.TheVariants.{Failed, Memory}
 
 -- looks, and what was answered
-
--- nothing was asked yet
-pub looked_refl : {told : Type 0} {i : ℕ} {a : State} → Looked told i a a true
-looked_refl {told} {i} {a} = record { frame = frame_refl i a; counted = refl; untouched = untouched_refl; out = out_whole_refl; reads = λ tells is. refl }
 
 answered_failed : {T : Type 0} (result : Result T ReadAll) → IsErrAnd result (λ fault. fault ≡ Failed) → answered result ≡ false
 answered_failed (Ok bytes) is = absurd is

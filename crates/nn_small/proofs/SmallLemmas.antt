@@ -11,20 +11,11 @@ module _ (sub : Sub) (tmp name : FileName) (bytes : List ℕ) where
   pub old_or_new_refl : (d : Disk) → OldOrNew sub tmp name bytes d d
   old_or_new_refl d = record { root = refl; subs = λ s. refl; other_subs = λ s n ne. refl; other_files = λ n a b. refl; file = inl refl }
 
-  pub old_or_new_trans : (a b c : Disk) → OldOrNew sub tmp name bytes a b → OldOrNew sub tmp name bytes b c → OldOrNew sub tmp name bytes a c
-  old_or_new_trans a b c p q = record {
-    root = q.root ∙ p.root;
-    subs = λ s. q.subs s ∙ p.subs s;
-    other_subs = λ s n ne. q.other_subs s n ne ∙ p.other_subs s n ne;
-    other_files = λ n x y. q.other_files n x y ∙ p.other_files n x y;
-    file = ⊎_elim (λ same. ⊎_elim (λ old. inl (same ∙ old)) (λ new. inr (same ∙ new)) p.file) (λ new. inr new) q.file;
-  }
-
   -- a stop leaves the file as one could have left it before, or exactly the new bytes
   pub left_small : (old d : Disk) (c : Reads) → OldOrNew sub tmp name bytes old d → Leaves d c → LeavesFile (old.file sub name) (c.file sub name) ⊎ (c.file sub name ≡ Some bytes)
   left_small old d c p leaves = ⊎_elim
       (λ same. inl (subst (λ (f : Option File). LeavesFile f (c.file sub name)) same (leaves.files sub name)))
-      (λ new. inr (sure_left d c sub name bytes leaves new))
+      (λ new. inr (sure_left d c sub name bytes leaves new.0))
       p.file
 
 -- what stands where a file was replaced

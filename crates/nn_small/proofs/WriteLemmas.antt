@@ -12,9 +12,9 @@ use Rattle.nn_host.proofs.FilesLemmas.{there}
 use Rattle.nn_host.proofs.LawfulLemmas.{unread}
 use Rattle.nn_host.proofs.MakesLemmas.{Makes}
 use Rattle.nn_host.proofs.TouchLemmas.{Touches, Moves, untouched, unmoved, rooted}
-use Rattle.nn_host.proofs.WorkLemmas.{work_once, work_more}
+use Rattle.nn_host.proofs.WorkLemmas.{work_once, work_more, work_weaker}
 use Rattle.nn_small.specs.Small.{OldOrNew, Written, replaced}
-use Rattle.nn_small.proofs.SmallLemmas.{old_or_new_refl}
+use Rattle.nn_small.proofs.SmallLemmas.{replaced_tmp}
 
 -- what each step leaves
 
@@ -38,36 +38,50 @@ module _ {A : Type 0} (d : Held A) (s : Sub) where
 
 -- at each moment the file is the old one or the new one
 
-module _ (sub : Sub) (tmp name : FileName) (apart : tmp ≢ name) (bytes : List ℕ) (old : Disk) where
+-- nothing but the .tmp was touched
+record Staged (sub : Sub) (tmp : FileName) (old d : Disk) : Type 0 where
+  root : d.root ≡ old.root
+  subs : (s : Sub) → d.has s ≡ old.has s
+  files : (s : Sub) (n : FileName) → ((s ≡ sub) × (n ≡ tmp) → ⊥) → d.file s n ≡ old.file s n
+
+module _ (sub : Sub) (tmp : FileName) (old : Disk) where
+  staged_refl : Staged sub tmp old old
+  staged_refl = record { root = refl; subs = λ s. refl; files = λ s n other. refl }
+
   -- a call that touches no name but the .tmp
-  staged : (call : Call) (r : Reads) (d part : Disk) → ((s : Sub) (n : FileName) → Touches call s n → (s ≡ sub) × (n ≡ tmp)) → ((s : Sub) → Moves call s → ⊥) → OldOrNew sub tmp name bytes old d → Makes call r d part → OldOrNew sub tmp name bytes old part
+  staged : (call : Call) (r : Reads) (d part : Disk) → ((s : Sub) (n : FileName) → Touches call s n → (s ≡ sub) × (n ≡ tmp)) → ((s : Sub) → Moves call s → ⊥) → Staged sub tmp old d → Makes call r d part → Staged sub tmp old part
   staged call r d part only still p makes = record {
     root = rooted call r d part makes ∙ p.root;
     subs = λ s. unmoved call r d part s makes (still s) ∙ p.subs s;
-    other_subs = λ s n ne. untouched call r d part s n makes (λ t. ne (only s n t).0) ∙ p.other_subs s n ne;
-    other_files = λ n a b. untouched call r d part sub n makes (λ t. a (only sub n t).1) ∙ p.other_files n a b;
-    file = ⊎_elim (λ e. inl (kept ∙ e)) (λ e. inr (kept ∙ e)) p.file;
+    files = λ s n other. untouched call r d part s n makes (λ t. other (only s n t)) ∙ p.files s n other;
   }
-    where
-      kept : part.file sub name ≡ d.file sub name
-      kept = untouched call r d part sub name makes (λ t. apart (sym (only sub name t).1))
+
+module _ (sub : Sub) (tmp name : FileName) (apart : tmp ≢ name) (bytes : List ℕ) (old : Disk) where
+  still_old : (d : Disk) → Staged sub tmp old d → OldOrNew sub tmp name bytes old d
+  still_old d p = record {
+    root = p.root;
+    subs = p.subs;
+    other_subs = λ s n ne. p.files s n (λ it. ne it.0);
+    other_files = λ n a b. p.files sub n (λ it. a it.1);
+    file = inl (p.files sub name (λ it. apart (sym it.1)));
+  }
 
   -- the rename, where the .tmp has the bytes, synced, or isn't there
-  renamed : (r : Reads) (d part : Disk) → OldOrNew sub tmp name bytes old d → (d.file sub tmp ≡ certain (Some bytes)) ⊎ (d.file sub tmp ≡ None) → Makes (RenameFile sub tmp name) r d part → OldOrNew sub tmp name bytes old part
+  renamed : (r : Reads) (d part : Disk) → Staged sub tmp old d → (d.file sub tmp ≡ certain (Some bytes)) ⊎ (d.file sub tmp ≡ None) → Makes (RenameFile sub tmp name) r d part → OldOrNew sub tmp name bytes old part
   renamed r d part p ready makes = record {
     root = rooted (RenameFile sub tmp name) r d part makes ∙ p.root;
     subs = λ s. unmoved (RenameFile sub tmp name) r d part s makes (λ t. t) ∙ p.subs s;
-    other_subs = λ s n ne. untouched (RenameFile sub tmp name) r d part s n makes (λ t. ne t.0) ∙ p.other_subs s n ne;
-    other_files = λ n a b. untouched (RenameFile sub tmp name) r d part sub n makes (λ t. ⊎_elim a b t.1) ∙ p.other_files n a b;
+    other_subs = λ s n ne. untouched (RenameFile sub tmp name) r d part s n makes (λ t. ne t.0) ∙ p.files s n (λ it. ne it.0);
+    other_files = λ n a b. untouched (RenameFile sub tmp name) r d part sub n makes (λ t. ⊎_elim a b t.1) ∙ p.files sub n (λ it. a it.1);
     file = subst Stands (sym makes) (stands (d.file sub tmp) ready);
   }
     where
       Stands : Disk → Type 0
-      Stands x = (x.file sub name ≡ old.file sub name) ⊎ (x.file sub name ≡ certain (Some bytes))
+      Stands x = (x.file sub name ≡ old.file sub name) ⊎ ((x.file sub name ≡ certain (Some bytes)) × (x.file sub tmp ≡ None))
 
       stands : (v : Option File) → (v ≡ certain (Some bytes)) ⊎ (v ≡ None) → Stands (if is_some v then with_file (with_file d sub tmp None) sub name v else d)
-      stands None is = p.file
-      stands (Some f) is = inr (there (with_file d sub tmp None) sub name (Some f) ∙ ⊎_elim (λ e. e) (λ e. cc) is)
+      stands None is = inl (p.files sub name (λ it. apart (sym it.1)))
+      stands (Some f) is = inr (there (with_file d sub tmp None) sub name (Some f) ∙ ⊎_elim (λ e. e) (λ e. cc) is, replaced_tmp d sub tmp name (Some f) apart)
 
 -- what reads and stands under the .tmp name before the rename
 
@@ -89,17 +103,30 @@ module _ (sub : Sub) (tmp : FileName) (bytes : List ℕ) where
 
 -- the four calls
 
+module _ {told : Type 0} {i : ℕ} {sub : Sub} {tmp : FileName} {s0 : State} where
+  first_staged : {T E : Type 0} {s1 : State} {r : Result T E} → Called told i (MakeFile sub tmp) s0 s1 r → OnlyAt told i s0 s1 (Staged sub tmp (disk_at s0 i))
+  first_staged a = work_once a
+      (λ tells. staged_refl sub tmp (disk_at s0 i))
+      (λ tells part makes. staged sub tmp (disk_at s0 i) (MakeFile sub tmp) (s0.reads i) (disk_at s0 i) part (λ s n t. t) (λ s t. t) (staged_refl sub tmp (disk_at s0 i)) makes)
+
+  second_staged : {T E : Type 0} {bytes : List ℕ} {s1 s2 : State} {r q : Result T E} → Called told i (MakeFile sub tmp) s0 s1 r → Called told i (Append sub tmp bytes) s1 s2 q → OnlyAt told i s0 s2 (Staged sub tmp (disk_at s0 i))
+  second_staged {bytes = bytes} {s1 = s1} a b = work_more (first_staged a) b (λ tells p part makes. staged sub tmp (disk_at s0 i) (Append sub tmp bytes) (s1.reads i) (disk_at s1 i) part (λ s n t. t) (λ s t. t) p makes)
+
+  third_staged : {T E : Type 0} {bytes : List ℕ} {s1 s2 s3 : State} {r q p : Result T E} → Called told i (MakeFile sub tmp) s0 s1 r → Called told i (Append sub tmp bytes) s1 s2 q → Called told i (Sync sub tmp) s2 s3 p → OnlyAt told i s0 s3 (Staged sub tmp (disk_at s0 i))
+  third_staged {s2 = s2} a b c = work_more (second_staged a b) c (λ tells p part makes. staged sub tmp (disk_at s0 i) (Sync sub tmp) (s2.reads i) (disk_at s2 i) part (λ s n t. t) (λ s t. t) p makes)
+
 module _ {told : Type 0} {i : ℕ} {sub : Sub} {tmp name : FileName} {bytes : List ℕ} {s0 : State} (apart : tmp ≢ name) where
+  unnamed : {s : State} → OnlyAt told i s0 s (Staged sub tmp (disk_at s0 i)) → OnlyAt told i s0 s (OldOrNew sub tmp name bytes (disk_at s0 i))
+  unnamed work = work_weaker work (λ tells d p. still_old sub tmp name apart bytes (disk_at s0 i) d p)
+
   pub first : {T E : Type 0} {s1 : State} {r : Result T E} → Called told i (MakeFile sub tmp) s0 s1 r → OnlyAt told i s0 s1 (OldOrNew sub tmp name bytes (disk_at s0 i))
-  first a = work_once a
-      (λ tells. old_or_new_refl sub tmp name bytes (disk_at s0 i))
-      (λ tells part makes. staged sub tmp name apart bytes (disk_at s0 i) (MakeFile sub tmp) (s0.reads i) (disk_at s0 i) part (λ s n t. t) (λ s t. t) (old_or_new_refl sub tmp name bytes (disk_at s0 i)) makes)
+  first a = unnamed (first_staged a)
 
   pub second : {T E : Type 0} {s1 s2 : State} {r q : Result T E} → Called told i (MakeFile sub tmp) s0 s1 r → Called told i (Append sub tmp bytes) s1 s2 q → OnlyAt told i s0 s2 (OldOrNew sub tmp name bytes (disk_at s0 i))
-  second {s1 = s1} a b = work_more (first a) b (λ tells p part makes. staged sub tmp name apart bytes (disk_at s0 i) (Append sub tmp bytes) (s1.reads i) (disk_at s1 i) part (λ s n t. t) (λ s t. t) p makes)
+  second a b = unnamed (second_staged a b)
 
   pub third : {T E : Type 0} {s1 s2 s3 : State} {r q p : Result T E} → Called told i (MakeFile sub tmp) s0 s1 r → Called told i (Append sub tmp bytes) s1 s2 q → Called told i (Sync sub tmp) s2 s3 p → OnlyAt told i s0 s3 (OldOrNew sub tmp name bytes (disk_at s0 i))
-  third {s2 = s2} a b c = work_more (second a b) c (λ tells p part makes. staged sub tmp name apart bytes (disk_at s0 i) (Sync sub tmp) (s2.reads i) (disk_at s2 i) part (λ s n t. t) (λ s t. t) p makes)
+  third a b c = unnamed (third_staged a b c)
 
 -- once three calls returned, the .tmp has the bytes, synced, or there is no such subfolder
 ready : {i : ℕ} {sub : Sub} {tmp : FileName} {bytes : List ℕ} {s0 s1 s2 s3 : State} → IsLawful s0 → Done i (MakeFile sub tmp) s0 s1 → Done i (Append sub tmp bytes) s1 s2 → Done i (Sync sub tmp) s2 s3
@@ -119,7 +146,7 @@ pub fourth : {T E told : Type 0} {i : ℕ} {sub : Sub} {tmp name : FileName} {by
     → Called {E = E} told i (MakeFile sub tmp) s0 s1 (Ok v1) → Called {E = E} told i (Append sub tmp bytes) s1 s2 (Ok v2) → Called {E = E} told i (Sync sub tmp) s2 s3 (Ok v3) → Called told i (RenameFile sub tmp name) s3 s4 r
     → OnlyAt told i s0 s4 (OldOrNew sub tmp name bytes (disk_at s0 i))
 fourth {i = i} {sub = sub} {tmp = tmp} {name = name} {bytes = bytes} {s0 = s0} {s3 = s3} apart lawful a b c d = work_more (third apart a b c) d
-    (λ tells p part makes. renamed sub tmp name apart bytes (disk_at s0 i) (s3.reads i) (disk_at s3 i) part p (ready (lawful tells) (a.effect tells).ok (b.effect tells).ok (c.effect tells).ok) makes)
+    (λ tells p part makes. renamed sub tmp name apart bytes (disk_at s0 i) (s3.reads i) (disk_at s3 i) part ((third_staged a b c).ends tells) (ready (lawful tells) (a.effect tells).ok (b.effect tells).ok (c.effect tells).ok) makes)
 
 -- all four calls returned in a subfolder that is there
 all_done : {i : ℕ} {sub : Sub} {tmp name : FileName} {bytes : List ℕ} {s0 s1 s2 s3 s4 : State} → (s0.reads i).has sub ≡ true → (disk_at s0 i).has sub ≡ true

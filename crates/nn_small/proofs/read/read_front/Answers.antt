@@ -1,6 +1,7 @@
 use Rattle.std.proofs.Common.{arith}
 use Rattle.nn_host.proofs.RunsLemmas.{looked_once}
-use Rattle.nn_small.proofs.ReadLemmas.{looked_refl, looked_failed, looked_memory, read_is}
+use Rattle.nn_host.proofs.RunsLemmas.{looked_refl}
+use Rattle.nn_small.proofs.ReadLemmas.{looked_failed, looked_memory, read_is}
 use Rattle.nn_small.proofs.read.read_front.Goals as goal
 
 pub returns-in_err-bytes-clause-kept : goal.returns-in_err-bytes-clause-kept
