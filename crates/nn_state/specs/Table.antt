@@ -1,24 +1,24 @@
--- The seven truth values of a directory's contents, and the table of storage states.
+-- The seven truth values of a directory, as it reads or on the disk, and the table of storage states.
 use Rattle.std.specs.Prelude.{ℕ, ◌+◌, Bool, not, ◌&&◌, nat_lt, ◌==◌, List, [], ◌∷◌, Result, Ok, Err, is_some, if◌then◌else◌}
 use Rattle.nn_base.specs.declared.sub.Sub.TheVariants.{Current, Previous, PreviousTmp, RemovedTmp, FinalizedTmp, LastCheckpointTmp}
 use Rattle.nn_base.specs.declared.file_name.FileName.TheVariants.{Version}
-use Rattle.nn_host.specs.Disk.{Reads}
+use Rattle.nn_host.specs.Disk.{Held}
 use Rattle.nn_state.specs.declared.state.Seven.{Seven}
 use Rattle.nn_state.specs.declared.state.StorageState.{StorageState}
 use Rattle.nn_state.specs.declared.state.StorageState.TheVariants.{NonExistent, NotFormatted, Normal, CompleteUpgrade, RecoverUpgrade, CompleteFinalize, CompleteRollback, RecoverRollback, CompleteCheckpoint, RecoverCheckpoint}
 use Rattle.nn_state.specs.declared.state.Why.{Why}
 use Rattle.nn_state.specs.declared.state.Why.TheVariants.{PreviousAlone, SeveralTmp, FinalizedAndPrevious, UpgradeAndPrevious, RollbackBoth, RollbackNeither}
 
--- the seven truth values of these contents
-abbrev pub seven_of : Reads → Seven
-seven_of r = record {
-  root = r.root;
-  current = is_some (r.file Current Version);
-  previous = r.has Previous;
-  previous_tmp = r.has PreviousTmp;
-  removed_tmp = r.has RemovedTmp;
-  finalized_tmp = r.has FinalizedTmp;
-  last_checkpoint_tmp = r.has LastCheckpointTmp;
+-- the seven truth values of what a directory holds
+abbrev pub seven_of : {A : Type 0} → Held A → Seven
+seven_of d = record {
+  root = d.root;
+  current = is_some (d.file Current Version);
+  previous = d.has Previous;
+  previous_tmp = d.has PreviousTmp;
+  removed_tmp = d.has RemovedTmp;
+  finalized_tmp = d.has FinalizedTmp;
+  last_checkpoint_tmp = d.has LastCheckpointTmp;
 }
 
 abbrev pub one_if : Bool → ℕ

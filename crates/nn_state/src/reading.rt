@@ -1,6 +1,7 @@
 // Reading the seven truth values of a directory.
 ghost use Rattle.std.specs.Prelude.{◌≡◌, ◌<◌, IfOk, is_ok};
-ghost use Rattle.nn_host.specs.Runs.{Looked};
+ghost use Rattle.nn_host.specs.Moments.{disk_at};
+ghost use Rattle.nn_host.specs.Runs.{Looked, OnlyAt};
 ghost use Rattle.nn_state.specs.Table.{seven_of};
 
 use crate::Seven;
@@ -14,6 +15,7 @@ pub fn look<H: Host>(host: &mut H, i: DirNo) -> Result<Seven, Failed>
     requires { i.0 < (H.state host.old).count }
     ensures ok { H.told → IfOk result (λ seven. seven ≡ seven_of ((H.state host.old).reads i.0)) }
     ensures kept { Looked H.told i.0 (H.state host.old) (H.state host.new) (is_ok result) }
+    ensures any_moment { OnlyAt H.told i.0 (H.state host.old) (H.state host.new) (λ d. d ≡ disk_at (H.state host.old) i.0) }
 {
     let root = host.has_root(i)?;
     let current = host.has_file(i, Sub::Current, FileName::Version)?;
@@ -46,6 +48,7 @@ fn look_under_way<H: Host>(host: &mut H, i: DirNo) -> Result<UnderWay, Failed>
     ensures finalize { H.told → IfOk result (λ it. it.finalize ≡ (seven_of ((H.state host.old).reads i.0)).finalized_tmp) }
     ensures import { H.told → IfOk result (λ it. it.import ≡ (seven_of ((H.state host.old).reads i.0)).last_checkpoint_tmp) }
     ensures kept { Looked H.told i.0 (H.state host.old) (H.state host.new) (is_ok result) }
+    ensures any_moment { OnlyAt H.told i.0 (H.state host.old) (H.state host.new) (λ d. d ≡ disk_at (H.state host.old) i.0) }
 {
     let upgrade = host.has_sub(i, Sub::PreviousTmp)?;
     let rollback = host.has_sub(i, Sub::RemovedTmp)?;
