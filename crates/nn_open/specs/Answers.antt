@@ -1,0 +1,51 @@
+-- What `format` answers.
+use Rattle.std.specs.Prelude.{◌≡◌, ◌⊎◌, ◌<◌, ℕ, List, Option, Some, None, Result, Ok, Err}
+use Rattle.nn_host.specs.Disk.{Disk, Reads, Settle, disk_after}
+use Rattle.nn_host.specs.Moments.{State, disk_at}
+use Rattle.nn_host.specs.Runs.{Throughout, EachDir}
+use Rattle.nn_state.specs.Table.{seven_of, table_of}
+use Rattle.nn_pick.specs.declared.refusal.Refusal.{Refusal}
+use Rattle.nn_pick.specs.declared.fault.OpenFault.{OpenFault}
+use Rattle.nn_pick.specs.declared.fault.OpenFault.TheVariants.{Refused, Failed, Memory}
+use Rattle.nn_pick.specs.Refused.{unformattable, first_refused}
+use Rattle.nn_open.specs.Formatted.{IsFresh, IsFormatted, ReadsFormatted, FreshOrNew}
+use Rattle.nn_open.specs.Runs.{RoseAt, SameCounts}
+
+-- the refusal of the lowest of the first n directories that isn't NOT_FORMATTED
+abbrev pub first_unformattable : (ℕ → Reads) → ℕ → Option Refusal
+first_unformattable dirs n = first_refused (λ i. unformattable i (table_of (seven_of (dirs i)))) n
+
+-- no directory was refused, and each is formatted, as it reads and on its disk
+pub record AllFormatted (text : List ℕ) (old new : State) : Type 0 where
+  pub unrefused : first_unformattable old.reads old.count ≡ None
+  pub reads : (i : ℕ) → i < old.count → ReadsFormatted text (new.reads i)
+  pub disks : (i : ℕ) → i < old.count → IsFormatted text (disk_at new i)
+
+-- the disk of a directory once it is settled, as it reads
+abbrev pub settled_disk : State → ℕ → Disk
+settled_disk s i = disk_after Settle (s.reads i) (disk_at s i)
+
+-- this is the first refusal; each directory reads as before, and was settled
+pub record IsRefused (refusal : Refusal) (old new : State) : Type 0 where
+  pub first : first_unformattable old.reads old.count ≡ Some refusal
+  pub reads : (i : ℕ) → new.reads i ≡ old.reads i
+  pub settled : (i : ℕ) → i < old.count → disk_at new i ≡ settled_disk old i
+
+-- each of the directories is NOT_FORMATTED
+abbrev pub AllFresh : State → Type 0
+AllFresh s = (i : ℕ) → i < s.count → IsFresh (s.reads i)
+
+-- from old to new the disk of each directory is NOT_FORMATTED, or holds a new namespace under this VERSION
+abbrev pub EachFreshOrNew : Type 0 → List ℕ → State → State → Type 0
+EachFreshOrNew told text old new = Throughout told old new (EachDir (λ i d. i < old.count → FreshOrNew text d.disk))
+
+-- from old to new the disk of each directory is as it was, or settled: a stop leaves of it what one could leave before
+abbrev pub EachAsBefore : Type 0 → State → State → Type 0
+EachAsBefore told old new = Throughout told old new (EachDir (λ i d. (d.disk ≡ disk_at old i) ⊎ (d.disk ≡ settled_disk old i)))
+
+-- which counts rose, by the answer: that of the directory that failed, and else none
+abbrev pub IsCountedBy : State → State → Result (Unit {0}) OpenFault → Type 0
+IsCountedBy old new (Ok v) = SameCounts old new
+IsCountedBy old new (Err (Refused refusal)) = SameCounts old new
+IsCountedBy old new (Err (Failed i)) = RoseAt i.0 old new
+IsCountedBy old new (Err Memory) = SameCounts old new
