@@ -22,3 +22,7 @@ pub mod PlainClimb
 pub mod CutLoop
 pub mod PlainClauses
 pub mod RoomLemmas
+pub mod OrderLemmas
+pub mod NextLemmas
+pub mod SortedLemmas
+pub mod BelowLemmas

@@ -5,6 +5,7 @@ pub mod Limits
 pub mod Changes
 pub mod Walks
 pub mod Spots
+pub mod Below
 pub mod Slots
 pub mod Links
 pub mod Plain

@@ -9,7 +9,8 @@ use nn_base::{Name, NoMemory, Path};
 use nn_quota::Usage;
 use std::alloc::Global;
 
-/// A namespace held in memory, by nodes that keep their spots. Each call that takes a spot needs that it names a node of this tree.
+/// A namespace held in memory, by nodes that keep their spots. Each call that takes a spot needs
+/// that it names a node of this tree.
 pub trait Tree: Sized + Drop {
     ghost use Rattle.nn_tree.specs.Namespace.{Namespace, usage_of, block_count, is_dir_at, is_file_at, empty_namespace};
     ghost use Rattle.nn_tree.specs.Limits.{IsWithinLimits, IsCounters};
@@ -35,7 +36,8 @@ pub trait Tree: Sized + Drop {
 
     /// Walks along a path from the root, to its node or to the first obstacle.
     fn find(&self, path: &Path) -> Walk
-        ensures walk { IsWalk result (has self.now) (place self.now) (meaning self.now).nodes path.now }
+        ensures walk { IsWalk result (has self.now) (place self.now)
+            (meaning self.now).nodes path.now }
         ensures sound { IsSound (meaning self.now) (has self.now) (place self.now) };
 
     fn node(&self, at: Spot) -> &Node
@@ -64,13 +66,15 @@ pub trait Tree: Sized + Drop {
     /// The child whose name comes first, in byte order.
     fn first_child(&self, at: Spot) -> Option<Spot>
         requires { has self.now at ≡ true }
-        ensures { IsNextChild result (has self.now) (place self.now) (meaning self.now).nodes (place self.now at) [] };
+        ensures { IsNextChild result (has self.now) (place self.now)
+            (meaning self.now).nodes (place self.now at) [] };
 
     /// The node of the same directory whose name comes next, in byte order.
     fn next_sibling(&self, at: Spot) -> Option<Spot>
         requires { has self.now at ≡ true }
         ensures root { place self.now at ≡ [] → result ≡ None }
-        ensures next { (p : Names) (name : _) → place self.now at ≡ p ++ name ∷ [] → IsNextChild result (has self.now) (place self.now) (meaning self.now).nodes p name };
+        ensures next { (p : Names) (name : _) → place self.now at ≡ p ++ name ∷ [] →
+            IsNextChild result (has self.now) (place self.now) (meaning self.now).nodes p name };
 
     fn counters(&self) -> Counters
         ensures value { result ≡ (meaning self.now).counters }
@@ -78,12 +82,14 @@ pub trait Tree: Sized + Drop {
 
     fn set_counters(&mut self, to: Counters)
         requires { IsCounters to }
-        ensures means { meaning self.new ≡ record { nodes = (meaning self.old).nodes; counters = to } }
+        ensures means { meaning self.new ≡
+            record { nodes = (meaning self.old).nodes; counters = to } }
         ensures has { has self.new ≡ has self.old }
         ensures place { place self.new ≡ place self.old }
         ensures room { spare self.new ≡ spare self.old };
 
-    /// Makes room for one node anywhere in the tree and for one block more at a spot. Without memory the namespace is as before.
+    /// Makes room for one node anywhere in the tree and for one block more at a spot. Without memory
+    /// the namespace is as before.
     fn reserve(&mut self, at: Spot) -> Result<(), NoMemory>
         requires { has self.old at ≡ true }
         ensures node { OnOk result ((spare self.new).node ≡ true) }
@@ -96,11 +102,15 @@ pub trait Tree: Sized + Drop {
     fn insert(&mut self, parent: Spot, name: Name, node: Node) -> Spot
         requires there { has self.old parent ≡ true }
         requires in_dir { is_dir_at (meaning self.old).nodes (place self.old parent) ≡ true }
-        requires free { map.get (meaning self.old).nodes (place self.old parent ++ name ∷ []) ≡ None }
-        requires limits { IsWithinLimits (map.insert (meaning self.old).nodes (place self.old parent ++ name ∷ []) node) }
+        requires free { map.get (meaning self.old).nodes
+            (place self.old parent ++ name ∷ []) ≡ None }
+        requires limits { IsWithinLimits
+            (map.insert (meaning self.old).nodes (place self.old parent ++ name ∷ []) node) }
         requires room { (spare self.old).node ≡ true }
-        ensures means { meaning self.new ≡ with_nodes (meaning self.old) (map.insert (meaning self.old).nodes (place self.old parent ++ name ∷ []) node) }
-        ensures keeps { Keeps (has self.old) (has self.new) (place self.old) (place self.new) (λ p. p) }
+        ensures means { meaning self.new ≡ with_nodes (meaning self.old)
+            (map.insert (meaning self.old).nodes (place self.old parent ++ name ∷ []) node) }
+        ensures keeps { Keeps (has self.old) (has self.new) (place self.old) (place self.new)
+            (λ p. p) }
         ensures spot { has self.new result ≡ true }
         ensures at { place self.new result ≡ place self.old parent ++ name ∷ [] }
         ensures room { KeepsBlockRoom (has self.old) (spare self.old) (spare self.new) };
@@ -109,9 +119,11 @@ pub trait Tree: Sized + Drop {
     fn add_block(&mut self, at: Spot, block: Block)
         requires there { has self.old at ≡ true }
         requires file { is_file_at (meaning self.old).nodes (place self.old at) ≡ true }
-        requires limits { IsWithinLimits (change_at (place self.old at) (with_block block) (meaning self.old).nodes) }
+        requires limits { IsWithinLimits
+            (change_at (place self.old at) (with_block block) (meaning self.old).nodes) }
         requires room { (spare self.old).block at ≡ true }
-        ensures means { meaning self.new ≡ with_nodes (meaning self.old) (change_at (place self.old at) (with_block block) (meaning self.old).nodes) }
+        ensures means { meaning self.new ≡ with_nodes (meaning self.old)
+            (change_at (place self.old at) (with_block block) (meaning self.old).nodes) }
         ensures has { has self.new ≡ has self.old }
         ensures place { place self.new ≡ place self.old }
         ensures room { (spare self.new).node ≡ (spare self.old).node };
@@ -120,8 +132,10 @@ pub trait Tree: Sized + Drop {
     fn change(&mut self, at: Spot, change: Change)
         requires there { has self.old at ≡ true }
         requires takes { takes_change (meaning self.old).nodes (place self.old at) change ≡ true }
-        requires limits { IsWithinLimits (change_at (place self.old at) (changed change) (meaning self.old).nodes) }
-        ensures means { meaning self.new ≡ with_nodes (meaning self.old) (change_at (place self.old at) (changed change) (meaning self.old).nodes) }
+        requires limits { IsWithinLimits
+            (change_at (place self.old at) (changed change) (meaning self.old).nodes) }
+        ensures means { meaning self.new ≡ with_nodes (meaning self.old)
+            (change_at (place self.old at) (changed change) (meaning self.old).nodes) }
         ensures has { has self.new ≡ has self.old }
         ensures place { place self.new ≡ place self.old }
         ensures room { spare self.new ≡ spare self.old };
@@ -130,8 +144,10 @@ pub trait Tree: Sized + Drop {
     fn remove(&mut self, at: Spot)
         requires there { has self.old at ≡ true }
         requires below_root { place self.old at ≢ [] }
-        ensures means { meaning self.new ≡ with_nodes (meaning self.old) (cut (place self.old at) (meaning self.old).nodes) }
-        ensures removes { Removes (place self.old at) (has self.old) (has self.new) (place self.old) (place self.new) }
+        ensures means { meaning self.new ≡ with_nodes (meaning self.old)
+            (cut (place self.old at) (meaning self.old).nodes) }
+        ensures removes { Removes (place self.old at) (has self.old) (has self.new)
+            (place self.old) (place self.new) }
         ensures room { KeepsSpare (has self.new) (spare self.old) (spare self.new) };
 
     /// Moves a node, with all below it, into a directory under a name. Spots stay with their nodes.
@@ -141,8 +157,12 @@ pub trait Tree: Sized + Drop {
         requires to { has self.old parent ≡ true }
         requires in_dir { is_dir_at (meaning self.old).nodes (place self.old parent) ≡ true }
         requires outside { is_under (place self.old at) (place self.old parent) ≡ false }
-        requires free { map.get (meaning self.old).nodes (place self.old parent ++ name ∷ []) ≡ None }
-        ensures means { meaning self.new ≡ with_nodes (meaning self.old) (move (place self.old at) (place self.old parent ++ name ∷ []) (meaning self.old).nodes) }
-        ensures keeps { Keeps (has self.old) (has self.new) (place self.old) (place self.new) (moved (place self.old at) (place self.old parent ++ name ∷ [])) }
+        requires free { map.get (meaning self.old).nodes
+            (place self.old parent ++ name ∷ []) ≡ None }
+        ensures means { meaning self.new ≡ with_nodes (meaning self.old)
+            (move (place self.old at) (place self.old parent ++ name ∷ [])
+            (meaning self.old).nodes) }
+        ensures keeps { Keeps (has self.old) (has self.new) (place self.old) (place self.new)
+            (moved (place self.old at) (place self.old parent ++ name ∷ [])) }
         ensures room { KeepsSpare (has self.new) (spare self.old) (spare self.new) };
 }

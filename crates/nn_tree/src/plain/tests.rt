@@ -1,13 +1,14 @@
 // One small tree, driven through the trait as commands drive it.
-ghost use Rattle.std.specs.Prelude.{◌≡◌, ◌<◌, ◌≤◌, ◌^◌, true, None, []};
+ghost use Rattle.std.specs.Prelude.{◌≡◌, ◌<◌, ◌≤◌, ◌^◌, true, None, [], map as map_list, IfOk};
 ghost use Rattle.std.specs.FinMap as map;
 ghost use Rattle.nn_tree.specs.Namespace.{node_count, is_dir_at, is_file_at};
 ghost use Rattle.nn_tree.specs.Limits.{IsBlock, IsKind, IsNode};
 ghost use Rattle.nn_tree.specs.Nodes.{blocks_of};
 ghost use Rattle.nn_tree.specs.Spots.{IsSound};
+ghost use Rattle.nn_tree.specs.Below.{entries_below};
 
 use super::*;
-use crate::{Blocks, Kind};
+use crate::{Blocks, Kind, next_below};
 use nn_base::Label;
 use nn_quota::Quota;
 use std::process::Abort;
@@ -262,4 +263,58 @@ fn nodes_keep_their_spots_and_count_where_they_are(rt: HostRuntime) -> Result<()
     let label = Label::of(b"hdfs").ok_or("a label")?;
     move_a_directory::<PlainTree>(&rt, rt.alloc(), label)?;
     fill_a_file::<PlainTree>(&rt, rt.alloc(), label)
+}
+
+/// The ids of the nodes at and below a spot, in the order of a walk.
+fn ids_below<T: Tree>(alloc: Global, tree: &T, top: Spot) -> Result<Vec<u64>, NoMemory>
+    requires { T.has tree.now top ≡ true }
+    ensures { IfOk result (λ ids. ids.items ≡ map_list (λ e. e.1.id)
+        (entries_below (T.meaning tree.now).nodes (T.place tree.now top))) }
+{
+    let mut ids = Vec::new(alloc);
+    let mut next = Some(top);
+    while let Some(at) = next {
+        ids.push(tree.node(at).id)?;
+        next = next_below(tree, at, top);
+    }
+    Ok(ids)
+}
+
+/// Makes a tree of directories, put in out of order, and walks it from the root and from `/a`.
+fn walk_in_order<T: Tree>(rt: &impl Abort, alloc: Global, label: Label) -> Result<(), Fail> {
+    let mut tree = T::new(alloc)?;
+    let paths: [(&[&[u8]], u64); 9] = [
+        (&[b"b"], 16394),
+        (&[b"a!"], 16390),
+        (&[b"a"], 16386),
+        (&[b"a", b"y"], 16389),
+        (&[b"a0"], 16392),
+        (&[b"a0", b"x"], 16393),
+        (&[b"a!", b"x"], 16391),
+        (&[b"a", b"x"], 16387),
+        (&[b"a", b"x", b"b"], 16388),
+    ];
+    for (parts, id) in paths {
+        make(
+            rt,
+            alloc,
+            &mut tree,
+            &path(alloc, parts)?,
+            directory(id, label),
+        )?;
+    }
+    let root = found(rt, &tree, &Path::root(alloc));
+    let whole = [
+        16385, 16386, 16387, 16388, 16389, 16390, 16391, 16392, 16393, 16394,
+    ];
+    assert_eq!(rt; ids_below(alloc, &tree, root)?.as_slice(), whole.as_slice());
+    let a = found(rt, &tree, &path(alloc, &[b"a"])?);
+    assert_eq!(rt; ids_below(alloc, &tree, a)?.as_slice(), &whole[1..5]);
+    Ok(())
+}
+
+#[test]
+fn a_walk_follows_the_order_of_paths(rt: HostRuntime) -> Result<(), Fail> {
+    let label = Label::of(b"hdfs").ok_or("a label")?;
+    walk_in_order::<PlainTree>(&rt, rt.alloc(), label)
 }
