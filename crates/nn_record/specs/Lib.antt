@@ -1,0 +1,4 @@
+pub mod Ops
+pub mod Spelling
+pub mod Reading
+pub mod RecordReading

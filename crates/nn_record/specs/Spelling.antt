@@ -1,0 +1,86 @@
+-- The one spelling of each record: opcode, length, transaction id, body and checksum, all numbers big-endian.
+use Rattle.std.specs.Prelude.{◌≡◌, ℕ, ◌+◌, ◌-◌, ◌^◌, ◌<◌, ◌≤◌, List, [], ◌∷◌, ◌++◌, length, Option, Some, None}
+use Rattle.std.specs.Int.{w16, w32, w64, to_be_bytes}
+use Rattle.nn_base.specs.Paths.{Names, text_of}
+use Rattle.nn_wire.specs.Crc32.{crc32_of}
+use Rattle.nn_record.specs.declared.op.Op.{Op}
+use Rattle.nn_record.specs.declared.op.Op.TheVariants.{Add, RenameOld, Delete, Mkdir, SetReplication, SetPermissions, SetOwner, Close, SetQuota, EndLogSegment, StartLogSegment, AddBlock}
+use Rattle.nn_record.specs.declared.transaction.Record.{Record}
+use Rattle.nn_record.specs.Ops.{opcode_of, IsOp, IsHeld}
+
+-- ---- fields: numbers of two, four and eight bytes
+
+unfoldable pub u16 : ℕ → List ℕ
+u16 n = to_be_bytes w16 n
+
+unfoldable pub u32 : ℕ → List ℕ
+u32 n = to_be_bytes w32 n
+
+unfoldable pub u64 : ℕ → List ℕ
+u64 n = to_be_bytes w64 n
+
+-- two bytes of length, and the path's text
+unfoldable pub path : Names → List ℕ
+path names = u16 (length (text_of names)) ++ text_of names
+
+-- one byte of length, and the name of an owner or a group
+unfoldable pub name : List ℕ → List ℕ
+name label = length label ∷ label
+
+-- a bound, where none is all ones
+unfoldable pub bound : Option ℕ → List ℕ
+bound None = u64 (2 ^ 64 - 1)
+bound (Some most) = u64 most
+
+-- ---- the body of each opcode
+
+unfoldable pub body_of : Op → List ℕ
+body_of (Add inode p replication time owner group mode) = u64 inode ++ path p ++ u16 replication ++ u64 time ++ name owner ++ name group ++ u16 mode
+body_of (RenameOld old new time) = path old ++ path new ++ u64 time
+body_of (Delete p time) = path p ++ u64 time
+body_of (Mkdir inode p time owner group mode) = u64 inode ++ path p ++ u64 time ++ name owner ++ name group ++ u16 mode
+body_of (SetReplication p replication) = path p ++ u16 replication
+body_of (SetPermissions p mode) = path p ++ u16 mode
+body_of (SetOwner p owner group) = path p ++ name owner ++ name group
+body_of (Close p time) = path p ++ u64 time
+body_of (SetQuota p quota) = path p ++ bound quota.names ++ bound quota.space
+body_of EndLogSegment = []
+body_of StartLogSegment = []
+body_of (AddBlock p id stamp size) = path p ++ u64 id ++ u64 stamp ++ u64 size
+
+-- bytes that begin with the body of an op of this opcode
+pub record IsBody (code : ℕ) (change : Op) (bytes rest : List ℕ) : Type 0 where
+  pub opcode : opcode_of change ≡ code
+  pub op : IsOp change
+  pub held : IsHeld change
+  pub text : bytes ≡ body_of change ++ rest
+
+-- ---- the whole record
+
+-- The length counts itself, the id and the body.
+unfoldable pub unsealed : ℕ → ℕ → List ℕ → List ℕ
+unsealed opcode id body = opcode ∷ u32 (4 + 8 + length body) ++ u64 id ++ body
+
+-- a text and its checksum
+unfoldable pub sealed : List ℕ → List ℕ
+sealed text = text ++ u32 (crc32_of text)
+
+unfoldable pub spelling : Record → List ℕ
+spelling r = sealed (unsealed (opcode_of r.op) r.id (body_of r.op))
+
+-- what has a spelling: a record with an id from 1 to 2^63 - 1 whose fields are in their ranges
+pub record IsRecord (r : Record) : Type 0 where
+  pub first : 1 ≤ r.id
+  pub last : r.id < 2 ^ 63
+  pub op : IsOp r.op
+  pub held : IsHeld r.op
+  pub size : length (spelling r) ≤ 65536
+
+-- bytes that begin with the spelling of r, and rest after it
+pub record Begins (bytes : List ℕ) (r : Record) (rest : List ℕ) : Type 0 where
+  pub formed : IsRecord r
+  pub text : bytes ≡ spelling r ++ rest
+
+-- No record's spelling begins another's.
+abbrev pub NoneBeginsAnother : Type 0
+NoneBeginsAnother = (r s : Record) (after_r after_s : List ℕ) → IsRecord r → IsRecord s → spelling r ++ after_r ≡ spelling s ++ after_s → (r ≡ s) × (after_r ≡ after_s)
