@@ -1,0 +1,11 @@
+pub mod RefusalLemmas
+pub mod WalkLemmas
+pub mod AboveLemmas
+pub mod NodeLemmas
+pub mod WorkLemmas
+pub mod BoundLemmas
+pub mod ReadyLemmas
+pub mod EntriesLemmas
+pub mod SharedLemmas
+pub mod ShortLemmas
+pub mod MoveLemmas

@@ -1,0 +1,10 @@
+pub mod Above
+pub mod Bounds
+pub mod Refusals
+pub mod Changes
+pub mod Commands
+pub mod Bodies
+pub mod Effects
+pub mod Step
+pub mod Plans
+pub mod Replays

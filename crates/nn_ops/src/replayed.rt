@@ -1,0 +1,248 @@
+// Doing again what a record says.
+ghost use Rattle.std.specs.Prelude.{◌≡◌, ◌≢◌, ◌<◌, ◌^◌, true, Some, None, IfOk, IfErr, OnOk, OnErr};
+ghost use Rattle.nn_ops.specs.declared.replayed.Clash.TheVariants.{Memory};
+ghost use Rattle.nn_record.specs.Ops.{IsOp};
+ghost use Rattle.nn_ops.specs.Bodies.{command_of, time_of};
+ghost use Rattle.nn_ops.specs.Commands.{IsCommand};
+ghost use Rattle.nn_ops.specs.Effects.{effect};
+ghost use Rattle.nn_ops.specs.Replays.{choice_of, no_choice};
+ghost use Rattle.nn_ops.specs.Step.{Fits};
+
+use crate::copies::copy_path;
+use crate::{Command, OpRefusal, apply, prepare};
+use nn_base::{Label, NoMemory};
+use nn_record::Op;
+use nn_tree::Tree;
+use std::alloc::Global;
+
+/// Why a body isn't done again.
+#[derive(Clone, Copy, Debug, PartialEq, Eq)]
+pub enum Clash {
+    /// No command writes this body on the namespace, at the time in it.
+    Refused,
+    /// Memory ran out. It has no other cause.
+    Memory,
+}
+
+impl From<NoMemory> for Clash {
+    ghost from_gives = { λ _ clash. clash ≡ Memory };
+
+    fn from(_: NoMemory) -> Clash {
+        Clash::Memory
+    }
+}
+
+/// What a body holds beyond its command and its time.
+#[derive(Drop)]
+struct Choice {
+    /// The id of the new node or block.
+    first: u64,
+    /// The generation stamp of a new block.
+    second: u64,
+    mode: u16,
+    /// The owner and the group of a new node.
+    labels: Option<(Label, Label)>,
+}
+
+fn choice_in(op: &Op) -> Choice
+    ensures { result ≡ choice_of op.now }
+{
+    match op {
+        Op::Add {
+            inode,
+            owner,
+            group,
+            mode,
+            ..
+        } => node_choice(*inode, *owner, *group, *mode),
+        Op::Mkdir {
+            inode,
+            owner,
+            group,
+            mode,
+            ..
+        } => node_choice(*inode, *owner, *group, *mode),
+        Op::AddBlock { id, stamp, .. } => Choice {
+            first: *id,
+            second: *stamp,
+            mode: 0,
+            labels: None,
+        },
+        Op::RenameOld { .. } => no_choice(),
+        Op::Delete { .. } => no_choice(),
+        Op::SetReplication { .. } => no_choice(),
+        Op::SetPermissions { .. } => no_choice(),
+        Op::SetOwner { .. } => no_choice(),
+        Op::Close { .. } => no_choice(),
+        Op::SetQuota { .. } => no_choice(),
+        Op::EndLogSegment => no_choice(),
+        Op::StartLogSegment => no_choice(),
+    }
+}
+
+fn node_choice(first: u64, owner: Label, group: Label, mode: u16) -> Choice
+    ensures { result ≡ record { first = first; second = 0; mode = mode; labels = Some (owner, group) } }
+{
+    Choice {
+        first,
+        second: 0,
+        mode,
+        labels: Some((owner, group)),
+    }
+}
+
+fn no_choice() -> Choice
+    ensures { result ≡ no_choice }
+{
+    Choice {
+        first: 0,
+        second: 0,
+        mode: 0,
+        labels: None,
+    }
+}
+
+fn same_label(a: &Label, b: &Label) -> bool
+    ensures same { result ≡ true → a.now ≡ b.now }
+    ensures other { a.now ≡ b.now → result ≡ true }
+{
+    a.bytes() == b.bytes()
+}
+
+fn same_labels(a: &Option<(Label, Label)>, b: &Option<(Label, Label)>) -> bool
+    ensures same { result ≡ true → a.now ≡ b.now }
+    ensures other { a.now ≡ b.now → result ≡ true }
+{
+    match a {
+        None => b.is_none(),
+        Some((owner, group)) => match b {
+            None => false,
+            Some((other_owner, other_group)) => {
+                same_label(owner, other_owner) && same_label(group, other_group)
+            }
+        },
+    }
+}
+
+fn same_choice(a: &Choice, b: &Choice) -> bool
+    ensures same { result ≡ true → a.now ≡ b.now }
+    ensures other { a.now ≡ b.now → result ≡ true }
+{
+    a.first == b.first
+        && a.second == b.second
+        && a.mode == b.mode
+        && same_labels(&a.labels, &b.labels)
+}
+
+/// The command that a body is of. `None` stands for the marks of a segment.
+fn command_in(alloc: Global, op: &Op) -> Result<Option<Command>, NoMemory>
+    ensures { IfOk result (λ command. command ≡ command_of op.now) }
+{
+    Ok(Some(match op {
+        Op::Add {
+            path,
+            replication,
+            ..
+        } => Command::Create {
+            path: copy_path(alloc, path)?,
+            replication: u64::from(*replication),
+        },
+        Op::RenameOld { from, to, .. } => Command::Rename {
+            from: copy_path(alloc, from)?,
+            to: copy_path(alloc, to)?,
+        },
+        Op::Delete { path, .. } => Command::Delete {
+            path: copy_path(alloc, path)?,
+        },
+        Op::Mkdir { path, .. } => Command::Mkdir {
+            path: copy_path(alloc, path)?,
+        },
+        Op::SetReplication { path, replication } => Command::Setrep {
+            path: copy_path(alloc, path)?,
+            replication: u64::from(*replication),
+        },
+        Op::SetPermissions { path, mode } => Command::Chmod {
+            path: copy_path(alloc, path)?,
+            mode: *mode,
+        },
+        Op::SetOwner { path, owner, group } => Command::Chown {
+            path: copy_path(alloc, path)?,
+            owner: *owner,
+            group: *group,
+        },
+        Op::Close { path, .. } => Command::Close {
+            path: copy_path(alloc, path)?,
+        },
+        Op::SetQuota { path, quota } => Command::SetQuota {
+            path: copy_path(alloc, path)?,
+            quota: *quota,
+        },
+        Op::AddBlock { path, length, .. } => Command::AddBlock {
+            path: copy_path(alloc, path)?,
+            length: *length,
+        },
+        Op::EndLogSegment => return Ok(None),
+        Op::StartLogSegment => return Ok(None),
+    }))
+}
+
+/// The time in a body, 0 where there is none.
+fn time_in(op: &Op) -> u64
+    ensures { result ≡ time_of op.now }
+{
+    match op {
+        Op::Add { time, .. } => *time,
+        Op::RenameOld { time, .. } => *time,
+        Op::Delete { time, .. } => *time,
+        Op::Mkdir { time, .. } => *time,
+        Op::Close { time, .. } => *time,
+        Op::SetReplication { .. } => 0,
+        Op::SetPermissions { .. } => 0,
+        Op::SetOwner { .. } => 0,
+        Op::SetQuota { .. } => 0,
+        Op::AddBlock { .. } => 0,
+        Op::EndLogSegment => 0,
+        Op::StartLogSegment => 0,
+    }
+}
+
+/// Does again what a body says, where a command writes just this body on the namespace, as Hadoop's `FSEditLogLoader` does. Else the namespace stays as it is.
+pub fn replay<T: Tree>(alloc: Global, tree: &mut T, op: &Op) -> Result<(), Clash>
+    requires { IsOp op.now }
+    ensures ok { OnOk result (Fits (T.meaning tree.old) op.now) }
+    ensures after { OnOk result (T.meaning tree.new ≡ effect op.now (T.meaning tree.old)) }
+    ensures err { IfErr result (λ clash. clash ≡ Clash.Refused → Fits (T.meaning tree.old) op.now → ⊥) }
+    ensures kept { OnErr result (T.meaning tree.new ≡ T.meaning tree.old) }
+{
+    let Some(command) = command_in(alloc, op)? else {
+        return Ok(());
+    };
+    match prepare(alloc, tree, &command, time_in(op)) {
+        Ok(plan) => {
+            if !same_choice(&choice_in(plan.op()), &choice_in(op)) {
+                return Err(Clash::Refused);
+            }
+            apply(tree, plan);
+            Ok(())
+        }
+        Err(refusal) => Err(told(refusal)),
+    }
+}
+
+/// Want of memory stays that, and every other refusal is one of the body.
+fn told(refusal: OpRefusal) -> Clash
+    ensures { result ≡ Clash.Refused → refusal ≢ OpRefusal.Memory }
+{
+    match refusal {
+        OpRefusal::Memory => Clash::Memory,
+        OpRefusal::Exists => Clash::Refused,
+        OpRefusal::NotFound => Clash::Refused,
+        OpRefusal::NotDir => Clash::Refused,
+        OpRefusal::IsDir => Clash::Refused,
+        OpRefusal::Under => Clash::Refused,
+        OpRefusal::Root => Clash::Refused,
+        OpRefusal::Closed => Clash::Refused,
+        OpRefusal::Quota => Clash::Refused,
+        OpRefusal::Limit => Clash::Refused,
+    }
+}
