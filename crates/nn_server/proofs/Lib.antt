@@ -1,0 +1,7 @@
+pub mod BytesLemmas
+pub mod ReaderLemmas
+pub mod LinesLemmas
+pub mod LongLemmas
+pub mod EndsLemmas
+pub mod DryLemmas
+pub mod ListingLemmas
