@@ -1,0 +1,12 @@
+pub mod EmptyLemmas
+pub mod EmptyImage
+pub mod PutLemmas
+pub mod SummaryLemmas
+pub mod ListsLemmas
+pub mod StageLemmas
+pub mod StepLemmas
+pub mod ChildLemmas
+pub mod UsesLemmas
+pub mod SaverLemmas
+pub mod CollectLemmas
+pub mod ModestLemmas
