@@ -1,5 +1,6 @@
 #!/bin/sh
-# Runs the program over folders of its own: an empty, a formatted and a missing name directory.
+# Runs the program over folders of its own: an empty, a formatted and a missing name directory, and eight new ones; and a script
+# in memory.
 set -eu
 program=$1
 place=$(mktemp -d)
@@ -20,3 +21,23 @@ run state empty formatted
 run state empty formatted missing
 mkdir -p formatted/previous formatted/removed.tmp
 run state formatted
+
+mkdir a b c d e f g h
+run format --cluster=c1 --namespace 7 a b c d e f g h
+run state a b c d e f g h
+run format --cluster=c1 --namespace 7 a b c d e f g h
+
+cat > script <<'END'
+# A quota of three names, the directory itself among them.
+mkdir /logs
+quota /logs 3 -
+create /logs/today 3
+block /logs/today 9001
+close /logs/today
+mkdir /logs/old
+mkdir /logs/older
+list /logs
+roll
+END
+cat script
+run dry < script

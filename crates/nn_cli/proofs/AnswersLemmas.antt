@@ -1,63 +1,134 @@
 -- From what was said before the last line to what was said in all.
-use Rattle.std.proofs.Common.{◌≡◌, ◌≢◌, ◌⊎◌, inl, inr, ⊎_elim, ℕ, List, ◌++◌, take, drop, Option, Some, None, refl, sym, ◌∙◌, ap, subst, arith, append_assoc}
+use Rattle.std.proofs.Common.{◌≡◌, ◌≢◌, inl, inr, ⊎_elim, ℕ, Bool, true, false, nat_le, if◌then◌else◌, List, [], ◌++◌, length, take, drop, Option, Some, None, refl, sym, ◌∙◌, ap, subst, arith, append_assoc}
+use Rattle.std.proofs.lemmas.Bool.{leb-true, leb-false}
 use Rattle.std.proofs.lemmas.List.{append-nil, take-append-drop}
+use Rattle.nn_base.specs.Paths.{Bytes}
 use Rattle.nn_host.specs.Disk.{Reads}
 use Rattle.nn_host.specs.Moments.{State}
-use Rattle.nn_host.specs.Calls.{next_count}
-use Rattle.nn_host.specs.Runs.{AllAnswered, OutWhole, SilentAfter}
-use Rattle.nn_host.proofs.RunsLemmas.{all_answered_trans, out_whole_trans, silent_whole, silent_after}
-use Rattle.nn_cli.specs.declared.refusal.Refusal.{Refusal}
-use Rattle.nn_cli.specs.declared.status.Status.{Status}
-use Rattle.nn_cli.specs.declared.status.Status.TheVariants.{Ok, Usage, Refused, HostFault, Memory, OutFault}
+use Rattle.nn_pick.specs.declared.refusal.Refusal.{Refusal}
+use Rattle.nn_open.specs.Answers.{first_unformattable}
+use Rattle.nn_script.specs.Lines.{lines_of, ended_lines}
+use Rattle.nn_script.specs.Answers.{answers, first_state, dry_text}
+use Rattle.nn_server.specs.declared.status.Status.{Status}
+use Rattle.nn_server.specs.declared.status.Status.TheVariants.{Ok, Usage, Refused, HostFault, SourceFault, ScriptTooLong, Memory, OutFault}
+use Rattle.nn_server.specs.Dry.{DrySays, most_bytes, due_lines}
 use Rattle.nn_cli.specs.Words.{Word}
-use Rattle.nn_cli.specs.Lines.{last_line}
-use Rattle.nn_cli.specs.States.{state_lines, first_refusal}
-use Rattle.nn_cli.specs.Answers.{HaveReading, Before, Means, SaysFront, Says, IsCausedBy, IsQuiet, EndsBy, FailsOver, Closes, Ends, IsLast}
+use Rattle.nn_cli.specs.Commands.{AskSomeStates, AskSomeFormat, AskDry}
+use Rattle.nn_cli.specs.Lines.{formatted_line, last_line}
+use Rattle.nn_cli.specs.States.{state_lines, first_unusable}
+use Rattle.nn_cli.specs.Answers.{StatesBefore, FormatBefore, Before, Means, SaysFront, Says}
+use Rattle.nn_cli.specs.Ends.{EndsBy, FailsOver, Closes, Ends, IsLast, IsMade}
+
+-- what `state` says is said of the words that ask for it
+pub before_states : (words : List Word) (dirs : ℕ → Reads) (n : ℕ) (script left : Bytes) (status : Status) (lines : List ℕ) → AskSomeStates words → StatesBefore dirs n status lines → Before words dirs n script left status lines
+before_states words dirs n script left Ok lines asked states = inl (asked, states)
+before_states words dirs n script left Usage lines asked states = absurd states
+before_states words dirs n script left (Refused refusal) lines asked states = inl (asked, states)
+before_states words dirs n script left (HostFault i) lines asked states = inl (asked, states)
+before_states words dirs n script left SourceFault lines asked states = absurd states
+before_states words dirs n script left ScriptTooLong lines asked states = absurd states
+before_states words dirs n script left Memory lines asked states = inl (asked, states)
+before_states words dirs n script left OutFault lines asked states = inl (asked, states)
+
+-- the same of `format`
+pub before_format : (words : List Word) (dirs : ℕ → Reads) (n : ℕ) (script left : Bytes) (status : Status) (lines : List ℕ) → AskSomeFormat words → FormatBefore dirs n status lines → Before words dirs n script left status lines
+before_format words dirs n script left Ok lines asked format = inr (inl (asked, format))
+before_format words dirs n script left Usage lines asked format = absurd format
+before_format words dirs n script left (Refused refusal) lines asked format = inr (inl (asked, format))
+before_format words dirs n script left (HostFault i) lines asked format = inr (inl (asked, format))
+before_format words dirs n script left SourceFault lines asked format = absurd format
+before_format words dirs n script left ScriptTooLong lines asked format = absurd format
+before_format words dirs n script left Memory lines asked format = inr (inl (asked, format))
+before_format words dirs n script left OutFault lines asked format = inr (inl (asked, format))
+
+-- and of `dry`
+pub before_dry : (words : List Word) (dirs : ℕ → Reads) (n : ℕ) (script left : Bytes) (status : Status) (lines : List ℕ) → AskDry words → DrySays script left status lines → Before words dirs n script left status lines
+before_dry words dirs n script left Ok lines asked says = inr (inr (asked, says))
+before_dry words dirs n script left Usage lines asked says = absurd says
+before_dry words dirs n script left (Refused refusal) lines asked says = absurd says
+before_dry words dirs n script left (HostFault i) lines asked says = absurd says
+before_dry words dirs n script left SourceFault lines asked says = inr (inr (asked, says))
+before_dry words dirs n script left ScriptTooLong lines asked says = inr (inr (asked, says))
+before_dry words dirs n script left Memory lines asked says = inr (inr (asked, says))
+before_dry words dirs n script left OutFault lines asked says = inr (inr (asked, says))
 
 -- an output that failed over the lines of the directories
-lines_front : (words : List Word) (dirs : ℕ → Reads) (n : ℕ) (lines later : List ℕ) → HaveReading words → state_lines dirs n ≡ lines ++ later → SaysFront words dirs n lines
-lines_front words dirs n lines later reading split = go (first_refusal dirs n) refl
+states_front : (words : List Word) (dirs : ℕ → Reads) (n : ℕ) (script : Bytes) (lines later : List ℕ) → AskSomeStates words → state_lines dirs n ≡ lines ++ later → SaysFront words dirs n script lines
+states_front words dirs n script lines later asked split = go (first_unusable dirs n) refl
   where
-    go : (first : Option Refusal) → first_refusal dirs n ≡ first → SaysFront words dirs n lines
-    go None is = (Ok, state_lines dirs n, later, ((λ e. cc), (state_lines dirs n, (reading, (is, refl)), sym (append-nil (state_lines dirs n)))), split)
+    go : (first : Option Refusal) → first_unusable dirs n ≡ first → SaysFront words dirs n script lines
+    go None is = (script, Ok, state_lines dirs n, later, ((λ e. cc), (state_lines dirs n, inl (asked, (is, refl)), sym (append-nil (state_lines dirs n)))), split)
     go (Some refusal) is = (
+      script,
       Refused refusal,
       state_lines dirs n ++ last_line (Refused refusal),
       later ++ last_line (Refused refusal),
-      ((λ e. cc), (state_lines dirs n, (reading, (is, refl)), refl)),
+      ((λ e. cc), (state_lines dirs n, inl (asked, (is, refl)), refl)),
       ap (λ (l : List ℕ). l ++ last_line (Refused refusal)) split ∙ append_assoc lines later (last_line (Refused refusal)),
     )
 
--- want of memory may take the place of any status but those of a failed output and of bad words
-starves : (words : List Word) (dirs : ℕ → Reads) (n : ℕ) (status : Status) (lines : List ℕ) → status ≢ OutFault → status ≢ Usage → Before words dirs n status lines → Before words dirs n Memory lines
-starves words dirs n Ok lines ne read before = (before.0, (n, omega arith, before.1.1))
-starves words dirs n Usage lines ne read before = absurd (read refl)
-starves words dirs n (Refused refusal) lines ne read before = (before.0, (n, omega arith, before.1.1))
-starves words dirs n (HostFault i) lines ne read before = (before.0, (i.0, omega (arith, before.1.0), before.1.1))
-starves words dirs n Memory lines ne read before = before
-starves words dirs n OutFault lines ne read before = absurd (ne refl)
+-- an output that failed over the number of directories
+format_front : (words : List Word) (dirs : ℕ → Reads) (n : ℕ) (script : Bytes) (lines later : List ℕ) → AskSomeFormat words → first_unformattable dirs n ≡ None → formatted_line n ≡ lines ++ later → SaysFront words dirs n script lines
+format_front words dirs n script lines later asked none split =
+    (script, Ok, formatted_line n, later, ((λ e. cc), (formatted_line n, inr (inl (asked, (none, refl))), sym (append-nil (formatted_line n)))), split)
 
-last_before : (words : List Word) (dirs : ℕ → Reads) (n : ℕ) (status last : Status) (lines : List ℕ) → status ≢ OutFault → IsLast status last → Before words dirs n status lines → Before words dirs n last lines
-last_before words dirs n status last lines ne is before = ⊎_elim
-    (λ same. subst (λ (s : Status). Before words dirs n s lines) (sym same) before)
-    (λ memory. subst (λ (s : Status). Before words dirs n s lines) (sym memory.0) (starves words dirs n status lines ne memory.1 before))
+-- an output that failed over the answers to a script: it meant to say them all
+dry_front : (words : List Word) (dirs : ℕ → Reads) (n : ℕ) (script : Bytes) (lines later : List ℕ) → AskDry words → answers first_state (due_lines script) ≡ lines ++ later → SaysFront words dirs n script lines
+dry_front words dirs n script lines later asked split = go (nat_le (length script) most_bytes) refl
+  where
+    ended : List ℕ
+    ended = answers first_state (ended_lines (take most_bytes script))
+
+    due : (fits : Bool) → nat_le (length script) most_bytes ≡ fits → answers first_state (if fits then lines_of script else ended_lines (take most_bytes script)) ≡ lines ++ later
+    due fits is = ap (λ (b : Bool). answers first_state (if b then lines_of script else ended_lines (take most_bytes script))) (sym is) ∙ split
+
+    go : (fits : Bool) → nat_le (length script) most_bytes ≡ fits → SaysFront words dirs n script lines
+    go true is = ([], Ok, dry_text script, later, ((λ e. cc), (dry_text script, inr (inr (asked, (leb-true (length script) most_bytes is, refl, refl))), sym (append-nil (dry_text script)))), due true is)
+    go false is = (
+      [],
+      ScriptTooLong,
+      ended ++ last_line ScriptTooLong,
+      later ++ last_line ScriptTooLong,
+      ((λ e. cc), (ended, inr (inr (asked, (leb-false (length script) most_bytes is, refl))), refl)),
+      ap (λ (l : List ℕ). l ++ last_line ScriptTooLong) (due false is) ∙ append_assoc lines later (last_line ScriptTooLong),
+    )
+
+-- want of memory may take the place of a last line that has to be made
+starves : (words : List Word) (dirs : ℕ → Reads) (n : ℕ) (script left : Bytes) (status : Status) (lines : List ℕ) → IsMade status → Before words dirs n script left status lines → Before words dirs n script left Memory lines
+starves words dirs n script left Ok lines made before = absurd made
+starves words dirs n script left Usage lines made before = absurd made
+starves words dirs n script left (Refused refusal) lines made (inl states) = inl (states.0, (n, omega arith, states.1.1))
+starves words dirs n script left (Refused refusal) lines made (inr (inl format)) = inr (inl (format.0, format.1.1))
+starves words dirs n script left (Refused refusal) lines made (inr (inr dry)) = absurd dry.1
+starves words dirs n script left (HostFault i) lines made (inl states) = inl (states.0, (i.0, omega (arith, states.1.0), states.1.1))
+starves words dirs n script left (HostFault i) lines made (inr (inl format)) = inr (inl (format.0, format.1.1))
+starves words dirs n script left (HostFault i) lines made (inr (inr dry)) = absurd dry.1
+starves words dirs n script left SourceFault lines made before = absurd made
+starves words dirs n script left ScriptTooLong lines made before = absurd made
+starves words dirs n script left Memory lines made before = absurd made
+starves words dirs n script left OutFault lines made before = absurd made
+
+last_before : (words : List Word) (dirs : ℕ → Reads) (n : ℕ) (script left : Bytes) (status last : Status) (lines : List ℕ) → IsLast status last → Before words dirs n script left status lines → Before words dirs n script left last lines
+last_before words dirs n script left status last lines is before = ⊎_elim
+    (λ same. subst (λ (s : Status). Before words dirs n script left s lines) (sym same) before)
+    (λ memory. subst (λ (s : Status). Before words dirs n script left s lines) (sym memory.0) (starves words dirs n script left status lines memory.1 before))
     is
 
 last_is_meant : (status last : Status) → status ≢ OutFault → IsLast status last → last ≢ OutFault
 last_is_meant status last ne is out = ⊎_elim (λ same. ne (sym same ∙ out)) (λ memory. let no : Memory ≡ OutFault = sym memory.0 ∙ out in cc) is
 
 -- what was said in all, where the run was closed by a last line
-closes_says : {told : Type 0} (words : List Word) (a b c : State) (status result : Status) → status ≢ OutFault → (lines : List ℕ) → b.now.said ≡ a.now.said ++ lines → Before words a.reads a.count status lines
-    → Closes told b c status result → told → (text : List ℕ) × (c.now.said ≡ a.now.said ++ text) × Says words a.reads a.count result text
-closes_says {told} words a b c status result ne lines said before closes tells =
+closes_says : {told : Type 0} (words : List Word) (a b c : State) (script left : Bytes) (status result : Status) → status ≢ OutFault → (lines : List ℕ) → b.now.said ≡ a.now.said ++ lines → Before words a.reads a.count script left status lines
+    → Closes told b c status result → told → (text : List ℕ) × (c.now.said ≡ a.now.said ++ text) × Says words a.reads a.count script left result text
+closes_says {told} words a b c script left status result ne lines said before closes tells =
     let last = closes.0 in
-    let means : Means words a.reads a.count last (lines ++ last_line last) =
-    (last_is_meant status last ne closes.1, (lines, last_before words a.reads a.count status last lines ne closes.1 before, refl)) in
+    let means : Means words a.reads a.count script left last (lines ++ last_line last) =
+    (last_is_meant status last ne closes.1, (lines, last_before words a.reads a.count script left status last lines closes.1 before, refl)) in
     ⊎_elim
     (λ (ends : EndsBy told b c last result). (
       lines ++ last_line last,
       ends.said tells ∙ ap (λ (l : List ℕ). l ++ last_line last) said ∙ append_assoc a.now.said lines (last_line last),
-      inl (subst (λ (s : Status). Means words a.reads a.count s (lines ++ last_line last)) (sym ends.status) means),
+      inl (subst (λ (s : Status). Means words a.reads a.count script left s (lines ++ last_line last)) (sym ends.status) means),
     ))
     (λ (fails : FailsOver told b c last result).
     let n = (fails.said tells).0 in (
@@ -66,6 +137,7 @@ closes_says {told} words a b c status result ne lines said before closes tells =
       inr (
         fails.status,
         (
+          left,
           last,
           lines ++ last_line last,
           drop n (last_line last),
@@ -76,111 +148,32 @@ closes_says {told} words a b c status result ne lines said before closes tells =
     ))
     closes.2
 
--- the output failed before
-out_before : (words : List Word) (dirs : ℕ → Reads) (n : ℕ) (lines : List ℕ) → Before words dirs n OutFault lines → Says words dirs n OutFault lines
-out_before words dirs n lines before = inr (refl, lines_front words dirs n lines before.1.0 before.0 before.1.1)
-
-pub ends_says : {told : Type 0} (words : List Word) (a b c : State) (status result : Status) (lines : List ℕ) → b.now.said ≡ a.now.said ++ lines → Before words a.reads a.count status lines
-    → Ends told b c status result → told → (text : List ℕ) × (c.now.said ≡ a.now.said ++ text) × Says words a.reads a.count result text
-ends_says words a b c Ok result lines said before ends tells = closes_says words a b c Ok result (λ e. cc) lines said before ends tells
-ends_says words a b c Usage result lines said before ends tells = closes_says words a b c Usage result (λ e. cc) lines said before (Usage, inl refl, ends) tells
-ends_says words a b c (Refused refusal) result lines said before ends tells = closes_says words a b c (Refused refusal) result (λ e. cc) lines said before ends tells
-ends_says words a b c (HostFault i) result lines said before ends tells = closes_says words a b c (HostFault i) result (λ e. cc) lines said before ends tells
-ends_says words a b c Memory result lines said before ends tells = closes_says words a b c Memory result (λ e. cc) lines said before ends tells
-ends_says words a b c OutFault result lines said before ends tells = (
+-- the work was done: there is no last line
+done_says : (words : List Word) (a b c : State) (script left : Bytes) (result : Status) (lines : List ℕ) → b.now.said ≡ a.now.said ++ lines → Before words a.reads a.count script left Ok lines → result ≡ Ok → c ≡ b
+    → (text : List ℕ) × (c.now.said ≡ a.now.said ++ text) × Says words a.reads a.count script left result text
+done_says words a b c script left result lines said before is same = (
   lines,
-  ap (λ (s : State). s.now.said) ends.1 ∙ said,
-  subst (λ (s : Status). Says words a.reads a.count s lines) (sym ends.0) (out_before words a.reads a.count lines before),
+  ap (λ (s : State). s.now.said) same ∙ said,
+  inl (subst (λ (s : Status). Means words a.reads a.count script left s lines) (sym is) ((λ e. cc), (lines, before, sym (append-nil lines)))),
 )
 
--- the output has not failed yet
-out_same : (told : Type 0) (a b : State) (status : Status) → status ≢ OutFault → IsCausedBy told a b status → b.now.out_faults ≡ a.now.out_faults
-out_same told a b Ok ne cause = cause.out_faults
-out_same told a b Usage ne cause = cause.out_faults
-out_same told a b (Refused refusal) ne cause = cause.out_faults
-out_same told a b (HostFault i) ne cause = cause.2
-out_same told a b Memory ne cause = cause
-out_same told a b OutFault ne cause = absurd (ne refl)
+-- the output failed before
+out_before : (words : List Word) (dirs : ℕ → Reads) (n : ℕ) (script left : Bytes) (lines : List ℕ) → Before words dirs n script left OutFault lines → Says words dirs n script left OutFault lines
+out_before words dirs n script left lines (inl states) = inr (refl, states_front words dirs n script lines states.1.0 states.0 states.1.1)
+out_before words dirs n script left lines (inr (inl format)) = inr (refl, format_front words dirs n script lines format.1.1.0 format.0 format.1.0 format.1.1.1)
+out_before words dirs n script left lines (inr (inr dry)) = inr (refl, dry_front words dirs n script lines dry.1.0 dry.0 dry.1.1)
 
-caused_then : {told : Type 0} (a b c : State) (status : Status) → status ≢ OutFault → IsCausedBy told a b status → AllAnswered told b c → IsCausedBy told a c status
-caused_then a b c Ok ne cause later = all_answered_trans cause later
-caused_then a b c Usage ne cause later = all_answered_trans cause later
-caused_then a b c (Refused refusal) ne cause later = all_answered_trans cause later
-caused_then a b c (HostFault i) ne cause later = (cause.0, later.faults i.0 ∙ cause.1, later.out_faults ∙ cause.2)
-caused_then a b c Memory ne cause later = later.out_faults ∙ cause
-caused_then a b c OutFault ne cause later = absurd (ne refl)
-
-closes_caused : {told : Type 0} (a b c : State) (status result : Status) → status ≢ OutFault → IsCausedBy told a b status → Closes told b c status result → IsCausedBy told a c result
-closes_caused {told} a b c status result ne cause closes = ⊎_elim
-    (λ (ends : EndsBy told b c closes.0 result).
-    subst (λ (s : Status). IsCausedBy told a c s) (sym ends.status)
-    (⊎_elim
-    (λ same. subst (λ (s : Status). IsCausedBy told a c s) (sym same) (caused_then a b c status ne cause ends.answered))
-    (λ memory. subst (λ (s : Status). IsCausedBy told a c s) (sym memory.0) (ends.answered.out_faults ∙ out_same told a b status ne cause))
-    closes.1))
-    (λ (fails : FailsOver told b c closes.0 result).
-    subst (λ (s : Status). IsCausedBy told a c s) (sym fails.status) (fails.counted ∙ ap next_count (out_same told a b status ne cause)))
-    closes.2
-
-pub ends_caused : (told : Type 0) (a b c : State) (status result : Status) → IsCausedBy told a b status → Ends told b c status result → IsCausedBy told a c result
-ends_caused told a b c Ok result cause ends = closes_caused a b c Ok result (λ e. cc) cause ends
-ends_caused told a b c Usage result cause ends = closes_caused a b c Usage result (λ e. cc) cause (Usage, inl refl, ends)
-ends_caused told a b c (Refused refusal) result cause ends = closes_caused a b c (Refused refusal) result (λ e. cc) cause ends
-ends_caused told a b c (HostFault i) result cause ends = closes_caused a b c (HostFault i) result (λ e. cc) cause ends
-ends_caused told a b c Memory result cause ends = closes_caused a b c Memory result (λ e. cc) cause ends
-ends_caused told a b c OutFault result cause ends =
-    subst (λ (s : Status). IsCausedBy told a c s) (sym ends.0) (ap (λ (s : State). s.now.out_faults) ends.1 ∙ cause)
-
-closes_usage : {told : Type 0} (b c : State) (status result : Status) → Closes told b c status result → result ≡ Usage → status ≡ Usage
-closes_usage {told} b c status result closes is = ⊎_elim
-    (λ (ends : EndsBy told b c closes.0 result). ⊎_elim (λ same. sym same ∙ sym ends.status ∙ is) (λ memory. let no : Memory ≡ Usage = sym memory.0 ∙ sym ends.status ∙ is in cc) closes.1)
-    (λ (fails : FailsOver told b c closes.0 result). let no : OutFault ≡ Usage = sym fails.status ∙ is in cc)
-    closes.2
-
--- a run ends by Usage only where it was to
-pub ends_usage : (told : Type 0) (b c : State) (status result : Status) → Ends told b c status result → result ≡ Usage → status ≡ Usage
-ends_usage told b c Ok result ends is = closes_usage b c Ok result ends is
-ends_usage told b c Usage result ends is = refl
-ends_usage told b c (Refused refusal) result ends is = closes_usage b c (Refused refusal) result ends is
-ends_usage told b c (HostFault i) result ends is = closes_usage b c (HostFault i) result ends is
-ends_usage told b c Memory result ends is = closes_usage b c Memory result ends is
-ends_usage told b c OutFault result ends is = sym ends.0 ∙ is
-
--- words without a reading end by Usage, unless the output fails
-pub usage_ends : (told : Type 0) (b c : State) (status result : Status) → status ≡ Usage → Ends told b c status result → (result ≡ Usage) ⊎ (result ≡ OutFault)
-usage_ends told b c status result is ends =
-    ⊎_elim (λ (e : EndsBy told b c Usage result). inl e.status) (λ (f : FailsOver told b c Usage result). inr f.status) (subst (λ (s : Status). Ends told b c s result) is ends)
-
--- whether the output failed, and whether anything was said then
-
-whole_is_quiet : (told : Type 0) (a c : State) (status : Status) → OutWhole told a c → IsQuiet told a c status
-whole_is_quiet told a c Ok whole = whole
-whole_is_quiet told a c Usage whole = whole
-whole_is_quiet told a c (Refused refusal) whole = whole
-whole_is_quiet told a c (HostFault i) whole = whole
-whole_is_quiet told a c Memory whole = whole
-whole_is_quiet told a c OutFault whole = silent_whole whole
-
-closes_quiet : (told : Type 0) (a b c : State) (status result : Status) → OutWhole told a b → Closes told b c status result → IsQuiet told a c result
-closes_quiet told a b c status result whole closes = ⊎_elim
-    (λ (ends : EndsBy told b c closes.0 result). whole_is_quiet told a c result (out_whole_trans whole ends.answered.out))
-    (λ (fails : FailsOver told b c closes.0 result). subst (λ (s : Status). IsQuiet told a c s) (sym fails.status) (silent_after whole fails.silent))
-    closes.2
-
-pub ends_quiet : (told : Type 0) (a b c : State) (status result : Status) → IsQuiet told a b status → Ends told b c status result → IsQuiet told a c result
-ends_quiet told a b c Ok result quiet ends = closes_quiet told a b c Ok result quiet ends
-ends_quiet told a b c Usage result quiet ends = closes_quiet told a b c Usage result quiet (Usage, inl refl, ends)
-ends_quiet told a b c (Refused refusal) result quiet ends = closes_quiet told a b c (Refused refusal) result quiet ends
-ends_quiet told a b c (HostFault i) result quiet ends = closes_quiet told a b c (HostFault i) result quiet ends
-ends_quiet told a b c Memory result quiet ends = closes_quiet told a b c Memory result quiet ends
-ends_quiet told a b c OutFault result quiet ends =
-    subst (λ (s : Status). IsQuiet told a c s) (sym ends.0) (subst (λ (x : State). SilentAfter told a x) (sym ends.1) quiet)
-
--- a quiet run behind one whose calls were all answered
-pub answered_quiet : (told : Type 0) (a b c : State) (status : Status) → AllAnswered told a b → IsQuiet told b c status → IsQuiet told a c status
-answered_quiet told a b c Ok answered quiet = out_whole_trans answered.out quiet
-answered_quiet told a b c Usage answered quiet = out_whole_trans answered.out quiet
-answered_quiet told a b c (Refused refusal) answered quiet = out_whole_trans answered.out quiet
-answered_quiet told a b c (HostFault i) answered quiet = out_whole_trans answered.out quiet
-answered_quiet told a b c Memory answered quiet = out_whole_trans answered.out quiet
-answered_quiet told a b c OutFault answered quiet = silent_after answered.out quiet
+pub ends_says : {told : Type 0} (words : List Word) (a b c : State) (script left : Bytes) (status result : Status) (lines : List ℕ) → b.now.said ≡ a.now.said ++ lines → Before words a.reads a.count script left status lines
+    → Ends told b c status result → told → (text : List ℕ) × (c.now.said ≡ a.now.said ++ text) × Says words a.reads a.count script left result text
+ends_says words a b c script left Ok result lines said before ends tells = done_says words a b c script left result lines said before ends.0 ends.1
+ends_says words a b c script left Usage result lines said before ends tells = closes_says words a b c script left Usage result (λ e. cc) lines said before (Usage, inl refl, ends) tells
+ends_says words a b c script left (Refused refusal) result lines said before ends tells = closes_says words a b c script left (Refused refusal) result (λ e. cc) lines said before ends tells
+ends_says words a b c script left (HostFault i) result lines said before ends tells = closes_says words a b c script left (HostFault i) result (λ e. cc) lines said before ends tells
+ends_says words a b c script left SourceFault result lines said before ends tells = closes_says words a b c script left SourceFault result (λ e. cc) lines said before (SourceFault, inl refl, ends) tells
+ends_says words a b c script left ScriptTooLong result lines said before ends tells = closes_says words a b c script left ScriptTooLong result (λ e. cc) lines said before (ScriptTooLong, inl refl, ends) tells
+ends_says words a b c script left Memory result lines said before ends tells = closes_says words a b c script left Memory result (λ e. cc) lines said before (Memory, inl refl, ends) tells
+ends_says words a b c script left OutFault result lines said before ends tells = (
+  lines,
+  ap (λ (s : State). s.now.said) ends.1 ∙ said,
+  subst (λ (s : Status). Says words a.reads a.count script left s lines) (sym ends.0) (out_before words a.reads a.count script left lines before),
+)

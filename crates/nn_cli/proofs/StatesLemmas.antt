@@ -1,6 +1,6 @@
 -- From directory to directory: what `state` has said and found so far.
 use Rattle.std.proofs.lemmas.Bool.Decides.{eqb_tells}
-use Rattle.std.proofs.Common.{◌≡◌, ◌≢◌, inl, inr, ℕ, zero, suc, ◌+◌, ◌<◌, ◌≤◌, List, [], ◌++◌, take, drop, Option, None, Result, refl, sym, ◌∙◌, ap, arith, append_assoc, add-one}
+use Rattle.std.proofs.Common.{◌≡◌, inl, inr, ℕ, zero, suc, ◌+◌, ◌<◌, ◌≤◌, List, [], ◌++◌, take, drop, Option, None, Result, refl, sym, ◌∙◌, ap, arith, append_assoc, add-one}
 use Rattle.std.proofs.lemmas.List.{append-nil, take-append-drop}
 use Rattle.nn_host.specs.Disk.{Reads}
 use Rattle.nn_host.specs.Moments.{State}
@@ -10,31 +10,34 @@ use Rattle.nn_host.proofs.RunsLemmas.{all_answered_refl, all_answered_trans}
 use Rattle.nn_state.specs.declared.state.StorageState.{StorageState}
 use Rattle.nn_state.specs.declared.state.Why.{Why}
 use Rattle.nn_state.specs.Table.{seven_of, table_of}
-use Rattle.nn_cli.specs.declared.refusal.Refusal.{Refusal}
-use Rattle.nn_cli.specs.declared.status.Status.{Status}
-use Rattle.nn_cli.specs.declared.status.Status.TheVariants as status
+use Rattle.nn_pick.specs.declared.refusal.Refusal.{Refusal}
+use Rattle.nn_pick.specs.Refused.{unusable, or_else}
+use Rattle.nn_server.specs.declared.status.Status.{Status}
+use Rattle.nn_server.specs.declared.status.Status.TheVariants as status
 use Rattle.nn_cli.specs.Lines.{state_line}
-use Rattle.nn_cli.specs.States.{found, state_lines, refusal_of, or_else, first_refusal}
-use Rattle.nn_cli.specs.Answers.{StatesBefore, IsCausedBy, Falls}
+use Rattle.nn_cli.specs.States.{found, state_lines, first_unusable}
+use Rattle.nn_cli.specs.Answers.{StatesBefore}
+use Rattle.nn_cli.specs.Causes.{IsAnswer, IsOfDirs, IsCausedBy}
+use Rattle.nn_cli.specs.Ends.{Falls}
 
 -- the first k directories were looked at and their lines said
 pub record SoFar (told : Type 0) (k : ℕ) (start now : State) (first : Option Refusal) : Type 0 where
   pub answered : AllAnswered told start now
   pub said : told → now.now.said ≡ start.now.said ++ state_lines start.reads k
-  pub refusal : told → first ≡ first_refusal start.reads k
+  pub refusal : told → first ≡ first_unusable start.reads k
 
 pub so_far_none : {told : Type 0} {a : State} → SoFar told 0 a a None
 so_far_none {a = a} = record { answered = all_answered_refl; said = λ tells. sym (append-nil a.now.said); refusal = λ tells. refl }
 
 pub so_far_one_more : {told : Type 0} {k : ℕ} {a b c : State} {first : Option Refusal} (later : Option Refusal) (it : Result StorageState Why) → SoFar told k a b first → AllAnswered told b c
-    → (told → it ≡ found b.reads k) → (told → c.now.said ≡ b.now.said ++ state_line k (found b.reads k)) → later ≡ or_else first (refusal_of k it) → SoFar told (k + 1) a c later
+    → (told → it ≡ found b.reads k) → (told → c.now.said ≡ b.now.said ++ state_line k (found b.reads k)) → later ≡ or_else first (unusable k it) → SoFar told (k + 1) a c later
 so_far_one_more {told} {k} {a} {b} {c} {first} later it so_far answered value said next = record {
   answered = all_answered_trans so_far.answered answered;
   said = λ tells. rw (add-one k) (
       said tells
       ∙ (λ i. so_far.said tells i ++ state_line k (same tells i))
       ∙ append_assoc a.now.said (state_lines a.reads k) (state_line k (found a.reads k)));
-  refusal = λ tells. rw (add-one k) (next ∙ (λ i. or_else (so_far.refusal tells i) (refusal_of k ((value tells ∙ same tells) i))));
+  refusal = λ tells. rw (add-one k) (next ∙ (λ i. or_else (so_far.refusal tells i) (unusable k ((value tells ∙ same tells) i))));
 }
   where
     same : told → found b.reads k ≡ found a.reads k
@@ -65,15 +68,17 @@ line_split dirs k n m below =
 
 -- what a run says and which count rises where the next directory's line isn't said whole
 pub so_far_falls : {told : Type 0} {k : ℕ} {a b : State} {first : Option Refusal} (c : State) (end : Status) → SoFar told k a b first → k < a.count → Falls told k b c end
-    → (told → (lines : List ℕ) × (c.now.said ≡ a.now.said ++ lines) × StatesBefore a.reads a.count end lines) × IsCausedBy told a c end
+    → (told → (lines : List ℕ) × (c.now.said ≡ a.now.said ++ lines) × StatesBefore a.reads a.count end lines) × IsCausedBy a c end
 so_far_falls {told} {k} {a} {b} {first} c end so_far below falls = go end falls
   where
     same : told → found b.reads k ≡ found a.reads k
     same tells = ap (λ (r : Reads). table_of (seven_of r)) (so_far.answered.reads tells k)
 
-    go : (end : Status) → Falls told k b c end → (told → (lines : List ℕ) × (c.now.said ≡ a.now.said ++ lines) × StatesBefore a.reads a.count end lines) × IsCausedBy told a c end
+    go : (end : Status) → Falls told k b c end → (told → (lines : List ℕ) × (c.now.said ≡ a.now.said ++ lines) × StatesBefore a.reads a.count end lines) × IsCausedBy a c end
     go status.Ok falls = absurd falls
     go status.Usage falls = absurd falls
+    go status.SourceFault falls = absurd falls
+    go status.ScriptTooLong falls = absurd falls
     go (status.Refused refusal) falls = absurd falls
     go (status.HostFault j) falls = (
       (λ tells. (state_lines a.reads k, falls.3 tells ∙ so_far.said tells, (rw falls.0 below, ap (state_lines a.reads) (sym falls.0)))),
@@ -98,10 +103,23 @@ so_far_falls {told} {k} {a} {b} {first} c end so_far below falls = go end falls
       falls.0 ∙ ap next_count so_far.answered.out_faults,
     )
 
-pub falls_read : (told : Type 0) (k : ℕ) (b c : State) (end : Status) → Falls told k b c end → end ≢ status.Usage
-falls_read told k b c status.Ok falls e = falls
-falls_read told k b c status.Usage falls e = falls
-falls_read told k b c (status.Refused refusal) falls e = falls
-falls_read told k b c (status.HostFault i) falls e = cc
-falls_read told k b c status.Memory falls e = cc
-falls_read told k b c status.OutFault falls e = cc
+pub falls_read : (told : Type 0) (k : ℕ) (b c : State) (end : Status) → Falls told k b c end → IsOfDirs end
+falls_read told k b c status.Ok falls = absurd falls
+falls_read told k b c status.Usage falls = absurd falls
+falls_read told k b c (status.Refused refusal) falls = absurd falls
+falls_read told k b c (status.HostFault i) falls = tt
+falls_read told k b c status.SourceFault falls = absurd falls
+falls_read told k b c status.ScriptTooLong falls = absurd falls
+falls_read told k b c status.Memory falls = tt
+falls_read told k b c status.OutFault falls = tt
+
+-- nor does it end by an answer
+pub falls_unanswered : (told : Type 0) (k : ℕ) (b c : State) (end : Status) → Falls told k b c end → IsAnswer end → ⊥
+falls_unanswered told k b c status.Ok falls is = falls
+falls_unanswered told k b c status.Usage falls is = falls
+falls_unanswered told k b c (status.Refused refusal) falls is = falls
+falls_unanswered told k b c (status.HostFault i) falls is = is
+falls_unanswered told k b c status.SourceFault falls is = falls
+falls_unanswered told k b c status.ScriptTooLong falls is = falls
+falls_unanswered told k b c status.Memory falls is = is
+falls_unanswered told k b c status.OutFault falls is = is

@@ -1,12 +1,14 @@
 -- Lemmas on the words of the command line.
-use Rattle.std.proofs.Common.{◌≡◌, ◌≢◌, ◌⊎◌, ◌<◌, ◌≤◌, ◌↔◌, suc, List, [], ◌∷◌, ◌++◌, length, map, get_or, codes, All, IsTrue, String, inl, inr, refl, sym, ◌∙◌, subst, arith}
-use Rattle.std.specs.List.{AllPairs}
+use Rattle.std.proofs.Common.{◌≡◌, ◌≢◌, ◌⊎◌, ◌<◌, ◌≤◌, ◌↔◌, ◌+◌, suc, Bool, false, take, drop, List, [], ◌∷◌, ◌++◌, length, map, get_or, codes, All, IsTrue, String, inl, inr, refl, sym, ap, ◌∙◌, subst, arith}
+use Rattle.std.specs.List.{AllPairs, prefix_len}
 use Rattle.std.specs.String.{string_bytes}
 use Rattle.std.proofs.lemmas.Bool.{false≢true}
-use Rattle.std.proofs.lemmas.List.{get_or-map, get_or_push, length-map, length_push, same_from_push}
+use Rattle.std.proofs.lemmas.List.{drop_more, get_or-map, get_or-take, get_or_push, length-drop, length-map, length-take, length_push, same_from_push}
 use Rattle.std.proofs.lemmas.List.Elements.{All-map}
 use Rattle.std.proofs.lemmas.List.Kept.{AllPairs-cons}
-use Rattle.nn_cli.specs.Words.{Word, texts, is_plain, AllPlain, AreDirs, Spell, AskStates}
+use Rattle.std.proofs.lemmas.List.Sums.{prefix_len_passes, prefix_len_stops}
+use Rattle.nn_cli.specs.Words.{Word, texts, is_plain, AllPlain, AreDirs, Spell}
+use Rattle.nn_cli.specs.Commands.{AskStates}
 
 All-from_map : {X Y : Type 0} (P : X → Type 0) (f : Y → X) (ys : List Y) → All P (map f ys) → All (λ y. P (f y)) ys
 All-from_map P f ys all =
@@ -62,7 +64,7 @@ pub distinct_dirs : {Z : Type 0} (dirs : List (String Z)) → AreDirs (texts dir
 distinct_dirs dirs are = AllPairs-from_map (λ one other. one ≢ other) string_bytes dirs are.distinct
 
 -- `--` begins with `-`, so it is no plain word
-mark_not_plain : (word : Word) → word ≡ codes "--" → IsTrue (is_plain word) → ⊥
+pub mark_not_plain : (word : Word) → word ≡ codes "--" → IsTrue (is_plain word) → ⊥
 mark_not_plain word mark plain = false≢true (subst (λ w. IsTrue (is_plain w)) mark plain)
 
 no_mark_first : (dirs words later : List Word) → AllPlain dirs → words ≡ dirs → words ≡ codes "--" ∷ later → ⊥
@@ -125,3 +127,24 @@ pub spelled_later : (words later dirs : List Word) (first : Word) → words ≡ 
 spelled_later words later dirs first split ask =
     let same : ask.later ≡ later = let command = ask.command in cc in
     subst (λ rest. Spell rest dirs) same ask.spelled
+
+abbrev pub is_plain_text : {Z : Type 0} → String Z → Bool
+is_plain_text word = is_plain (string_bytes word)
+
+-- the plain words that words begin with, and the word behind them
+pub plain_front : {Z : Type 0} (words front : List (String Z)) → front ≡ take (prefix_len is_plain_text words) words → AllPlain (texts front)
+plain_front words front is =
+    subst (λ ws. AllPlain (texts ws)) (sym is) (plain_texts (take (prefix_len is_plain_text words) words) (λ k d below.
+    let inside : k < prefix_len is_plain_text words = omega (arith, below, length-take (prefix_len is_plain_text words) words) in
+    ap is_plain_text (get_or-take (prefix_len is_plain_text words) words k d inside) ∙ prefix_len_passes is_plain_text words k d inside))
+
+pub unplain_rest : {Z : Type 0} (words rest : List (String Z)) → rest ≡ drop (prefix_len is_plain_text words) words → (first : Word) (later : List Word) → texts rest ≡ first ∷ later → is_plain first ≡ false
+unplain_rest [] rest is first later split = let none : rest ≡ [] = is in let same : texts rest ≡ [] = ap texts none in cc
+unplain_rest (word ∷ words) rest is first later split =
+    let all = word ∷ words in
+    let count = prefix_len is_plain_text all in
+    let same : texts (drop count all) ≡ first ∷ later = ap texts (sym is) ∙ split in
+    let inside : count < length all = omega (arith, ap length same, length-map (drop count all) string_bytes, length-drop count all) in
+    let begins : texts (drop count all) ≡ string_bytes (get_or all count word) ∷ texts (drop (count + 1) all) = ap texts (drop_more all count word inside) in
+    let heads : string_bytes (get_or all count word) ≡ first = cc in
+    ap is_plain (sym heads) ∙ prefix_len_stops is_plain_text all word inside

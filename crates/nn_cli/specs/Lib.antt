@@ -1,5 +1,12 @@
 pub mod Words
-pub mod Codes
+pub mod Options
+pub mod Commands
+pub mod FormatWords
 pub mod Lines
 pub mod States
+pub mod Format
 pub mod Answers
+pub mod Script
+pub mod Causes
+pub mod Dirs
+pub mod Ends

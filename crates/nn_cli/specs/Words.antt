@@ -1,4 +1,4 @@
--- How the words of the command line are read.
+-- Words of the command line, and directories that they name.
 use Rattle.std.specs.Prelude.{◌≡◌, ◌≢◌, ◌⊎◌, ◌==◌, ◌≤◌, ℕ, Bool, true, not, List, [], ◌∷◌, ◌++◌, length, map, codes, All, IsTrue, String}
 use Rattle.std.specs.List.{AllPairs}
 use Rattle.std.specs.String.{string_bytes}
@@ -31,14 +31,3 @@ abbrev pub Spell : List Word → List Word → Type 0
 Spell words dirs =
     (AllPlain dirs × ((words ≡ dirs) ⊎ (words ≡ dirs ++ codes "--" ∷ [])))
     ⊎ (words ≡ codes "--" ∷ dirs)
-
--- the words ask for the states of these directories
-pub record AskStates (words dirs : List Word) : Type 0 where
-  pub later : List Word
-  pub command : words ≡ codes "state" ∷ later
-  pub spelled : Spell later dirs
-  pub are_dirs : AreDirs dirs
-
--- no directories make the words a reading
-abbrev pub HaveNoReading : List Word → Type 0
-HaveNoReading words = (dirs : List Word) → AskStates words dirs → ⊥

@@ -2,23 +2,23 @@
 //! What it does with name directories stands in the crates below.
 #![tactic(auto)]
 
+mod format;
 mod real;
-mod refusal;
 mod run;
 mod states;
-mod status;
 #[cfg(test)]
 mod tests;
 mod words;
 
-pub use refusal::Refusal;
+pub use format::say_formatted;
+pub use nn_pick::Refusal;
+pub use nn_server::Status;
 pub use run::namenode;
 pub use states::say_states;
-pub use status::Status;
 use std::env;
 use std::io::ErrorKind;
 use std::process::ExitCode;
-pub use words::{WordsFault, dirs_of, states_asked};
+pub use words::{Command, WordsFault, command_of, dirs_of};
 
 fn main(rt: HostRuntime) -> ExitCode {
     let alloc = rt.alloc();

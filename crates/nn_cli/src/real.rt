@@ -1,15 +1,16 @@
-// Runs over real folders and the real output.
+// Runs over real folders, the real input and the real output.
 ghost use Rattle.std.specs.Prelude.{◌≤◌, length};
-ghost use Rattle.nn_cli.specs.Words.{texts, AskStates, HaveNoReading};
+ghost use Rattle.nn_cli.specs.Words.{texts};
+ghost use Rattle.nn_cli.specs.Commands.{Ask, HaveNoReading};
 
 use crate::{Status, WordsFault, dirs_of, namenode};
 use nn_base::NoMemory;
-use nn_files::FileHost;
+use nn_files::{FileHost, StdSource};
 use std::alloc::Global;
 use std::rt::Files;
 
 /// Does what the words ask for over the real folders that they name, and gives the exit status.
-pub fn run<R: Files + Print + Drop>(rt: R, alloc: Global, words: &[String]) -> u8 {
+pub fn run<R: Files + Print + Input + Drop>(rt: R, alloc: Global, words: &[String]) -> u8 {
     match dirs_of(alloc, words) {
         Ok(dirs) => run_over(rt, alloc, words, dirs),
         Err(WordsFault::Usage) => run_unread(rt, alloc, words),
@@ -17,26 +18,28 @@ pub fn run<R: Files + Print + Drop>(rt: R, alloc: Global, words: &[String]) -> u
     }
 }
 
-fn run_over<R: Files + Print + Drop>(
+fn run_over<R: Files + Print + Input + Drop>(
     rt: R,
     alloc: Global,
     words: &[String],
     dirs: Vec<String>,
 ) -> u8
-    requires { AskStates (texts words.now) (texts dirs.items) }
+    requires { Ask (texts words.now) (texts dirs.items) }
 {
+    let mut source = StdSource::new(&rt);
     match FileHost::open(rt, alloc, dirs) {
-        Ok(mut host) => namenode(alloc, words, &mut host).code(),
+        Ok(mut host) => namenode(alloc, words, &mut source, &mut host).code(),
         Err(NoMemory) => Status::Memory.code(),
     }
 }
 
 // Words without a reading name no folder.
-fn run_unread<R: Files + Print + Drop>(rt: R, alloc: Global, words: &[String]) -> u8
+fn run_unread<R: Files + Print + Input + Drop>(rt: R, alloc: Global, words: &[String]) -> u8
     requires { HaveNoReading (texts words.now) }
 {
+    let mut source = StdSource::new(&rt);
     match FileHost::open(rt, alloc, Vec::new(alloc)) {
-        Ok(mut host) => namenode(alloc, words, &mut host).code(),
+        Ok(mut host) => namenode(alloc, words, &mut source, &mut host).code(),
         Err(NoMemory) => Status::Memory.code(),
     }
 }

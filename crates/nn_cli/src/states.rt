@@ -1,14 +1,17 @@
 // The command `state`: each directory's storage state, and then the first refusal.
-ghost use Rattle.std.specs.Prelude.{◌≡◌, ◌≢◌, ◌<◌, ◌++◌, OnOk, IfOk, IfErr};
+ghost use Rattle.std.specs.Prelude.{◌≡◌, ◌<◌, ◌++◌, OnOk, IfOk, IfErr};
 ghost use Rattle.std.specs.String.{string_bytes};
 ghost use Rattle.nn_host.specs.Runs.{AllAnswered, Untouched};
 ghost use Rattle.nn_cli.specs.Lines.{state_line};
-ghost use Rattle.nn_cli.specs.States.{found, refusal_of as refusal_at, or_else};
-ghost use Rattle.nn_cli.specs.Answers.{StatesBefore, IsCausedBy, IsQuiet, Falls};
+ghost use Rattle.nn_cli.specs.States.{found};
+ghost use Rattle.nn_cli.specs.Answers.{StatesBefore};
+ghost use Rattle.nn_cli.specs.Causes.{IsAnswer, IsOfDirs, IsCausedBy, IsQuiet};
+ghost use Rattle.nn_cli.specs.Ends.{Falls};
 
-use crate::{Refusal, Status};
+use crate::Status;
 use nn_base::{DirNo, NoMemory};
 use nn_host::{Failed, Host};
+use nn_pick::{first_of, unusable};
 use nn_state::{StorageState, Why, look, table};
 use std::alloc::Global;
 
@@ -17,15 +20,16 @@ use std::alloc::Global;
 /// The last line of the status is left to the caller.
 pub fn say_states<H: Host>(alloc: Global, host: &mut H) -> Status
     ensures said { H.told → (lines : _) × ((H.state host.new).now.said ≡ (H.state host.old).now.said ++ lines) × StatesBefore (H.state host.old).reads (H.state host.old).count result lines }
-    ensures read { result ≢ Status.Usage }
+    ensures read { IsOfDirs result }
     ensures kept { Untouched H.told (H.state host.old) (H.state host.new) }
+    ensures answered { IsAnswer result → AllAnswered H.told (H.state host.old) (H.state host.new) }
     ensures quiet { IsQuiet H.told (H.state host.old) (H.state host.new) result }
-    ensures cause { IsCausedBy H.told (H.state host.old) (H.state host.new) result }
+    ensures cause { IsCausedBy (H.state host.old) (H.state host.new) result }
 {
     let mut first = None;
     for i in 0..host.count() {
         match say_state(alloc, host, DirNo(i)) {
-            Ok(found) => first = first_of(first, DirNo(i), found),
+            Ok(found) => first = first_of(first, unusable(DirNo(i), found)),
             Err(status) => return status,
         }
     }
@@ -72,23 +76,4 @@ fn line_of(alloc: Global, i: DirNo, found: Result<StorageState, Why>) -> Result<
         Err(why) => format!(in alloc; "{} inconsistent {}\n", i.0, why)?,
     };
     Ok(line)
-}
-
-fn first_of(first: Option<Refusal>, i: DirNo, found: Result<StorageState, Why>) -> Option<Refusal>
-    ensures { result ≡ or_else first (refusal_at i.0 found) }
-{
-    match first {
-        Some(refusal) => Some(refusal),
-        None => refusal_of(i, found),
-    }
-}
-
-fn refusal_of(i: DirNo, found: Result<StorageState, Why>) -> Option<Refusal>
-    ensures { result ≡ refusal_at i.0 found }
-{
-    match found {
-        Ok(StorageState::NonExistent) => Some(Refusal::Missing(i)),
-        Ok(_) => None,
-        Err(why) => Some(Refusal::Inconsistent(i, why)),
-    }
 }

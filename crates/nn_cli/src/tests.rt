@@ -2,10 +2,12 @@
 ghost use Rattle.std.specs.Prelude.{◌≡◌, ◌≤◌, ◌<◌, OnOk};
 ghost use Rattle.nn_memhost.specs.Mem.{mem_state};
 
-use crate::{Status, namenode, states_asked};
+mod scripts;
+
+use crate::{Status, command_of, namenode};
 use nn_base::{DirNo, FileName, NoMemory, Sub};
 use nn_host::Host;
-use nn_memhost::{MemHost, Part};
+use nn_memhost::{Choice, Keep, MemHost, MemSource, Part, StopFault};
 use std::alloc::{AllocError, Global};
 use std::process::Abort;
 use std::test::Fail;
@@ -22,7 +24,7 @@ struct Row {
 // Each letter of a directory is a file in it: V and S are VERSION and `seen_txid` in `current`, P one in `previous`,
 // U, R, F and L one in the temporary folder of an upgrade, a rollback, a finalize and an import. `.` is an empty directory
 // and `-` none.
-const ROWS: [Row; 9] = [
+const ROWS: [Row; 17] = [
     Row {
         dirs: ". V -",
         words: "state A B C",
@@ -76,6 +78,54 @@ const ROWS: [Row; 9] = [
         words: "state A --",
         said: "0 NORMAL\n",
         code: 0,
+    },
+    Row {
+        dirs: ".",
+        words: "format --cluster=c1 --namespace 7 A",
+        said: "formatted 1\n",
+        code: 0,
+    },
+    Row {
+        dirs: ". S . . . . . .",
+        words: "format a b c d e f g h --namespace=2147483647 --cluster c1 --",
+        said: "formatted 8\n",
+        code: 0,
+    },
+    Row {
+        dirs: "",
+        words: "format --cluster c1 A",
+        said: "usage\n",
+        code: 1,
+    },
+    Row {
+        dirs: "",
+        words: "format --cluster c1 --namespace 0 A",
+        said: "usage\n",
+        code: 1,
+    },
+    Row {
+        dirs: "V",
+        words: "format --cluster=c1 --namespace 7 A",
+        said: "refused formatted 0\n",
+        code: 2,
+    },
+    Row {
+        dirs: ". - V",
+        words: "format --cluster=c1 --namespace 7 A B C",
+        said: "refused missing 1\n",
+        code: 2,
+    },
+    Row {
+        dirs: ". RVP -",
+        words: "format --cluster=c1 --namespace 7 A B C",
+        said: "refused inconsistent 1 rollback-both\n",
+        code: 2,
+    },
+    Row {
+        dirs: ". U",
+        words: "format --cluster=c1 --namespace 7 A B",
+        said: "refused formatted 1\n",
+        code: 2,
     },
 ];
 
@@ -196,7 +246,7 @@ fn a_failed_call_ends_the_run_where_it_came(rt: HostRuntime) -> Result<(), Fail>
         (". -", 16, "0 NOT_FORMATTED\n1 NON_EXISTENT\nrefused m", 8),
     ];
     for (dirs, call, said, code) in failing {
-        let mut host = host_of(&rt, rt.alloc(), dirs, &[call])?;
+        let mut host = host_of(&rt, rt.alloc(), dirs, &[(call, Part::Half)])?;
         let status = run(&rt, rt.alloc(), "state A B", &mut host)?;
         assert_eq!(rt; status.code(), code, "{call}");
         assert!(rt; has_said(&host, said), "{call}");
@@ -204,20 +254,99 @@ fn a_failed_call_ends_the_run_where_it_came(rt: HostRuntime) -> Result<(), Fail>
     Ok(())
 }
 
+#[test]
+fn a_format_that_fails_leaves_the_directories_before_it_formatted(
+    rt: HostRuntime,
+) -> Result<(), Fail> {
+    // Each directory is settled and asked seven questions, the calls 0 to 15. Then the first takes eleven calls, and the
+    // second is cleared, gets `current`, and its `seen_txid` is made, appended to and synced.
+    let failing: [(u64, Part, &str, u8); 4] = [
+        (32, Part::Nothing, "fault 1\n0 NORMAL\n1 NOT_FORMATTED\n", 3),
+        (
+            8,
+            Part::All,
+            "fault 1\n0 NOT_FORMATTED\n1 NOT_FORMATTED\n",
+            3,
+        ),
+        (37, Part::All, "fault 1\n0 NORMAL\n1 NORMAL\n", 3),
+        (38, Part::Half, "format0 NORMAL\n1 NORMAL\n", 8),
+    ];
+    for (call, part, said, code) in failing {
+        let mut host = host_of(&rt, rt.alloc(), ". .", &[(call, part)])?;
+        let status = run(
+            &rt,
+            rt.alloc(),
+            "format --cluster c1 --namespace 7 A B",
+            &mut host,
+        )?;
+        assert_eq!(rt; status.code(), code, "{call}");
+        let _status = run(&rt, rt.alloc(), "state A B", &mut host)?;
+        assert!(rt; has_said(&host, said), "{call}");
+    }
+    Ok(())
+}
+
+#[test]
+fn a_stop_inside_any_call_of_a_format_leaves_the_directory_as_it_was_or_formatted(
+    rt: HostRuntime,
+) -> Result<(), Fail> {
+    let mut host = host_of(&rt, rt.alloc(), ".", &[])?;
+    let _status = run(
+        &rt,
+        rt.alloc(),
+        "format --cluster=c1 --namespace 7 A",
+        &mut host,
+    )?;
+    for keep in [Keep::Synced, Keep::Half, Keep::All, Keep::Torn] {
+        for done in [false, true] {
+            let choice = Choice { done, keep };
+            for k in 0..host.calls() {
+                assert!(rt;
+                    leaves_old_or_new(&rt, rt.alloc(), &host, k, choice)?,
+                    "{k}"
+                );
+            }
+            assert!(rt;
+                matches!(
+                    host.stopped_at(host.calls(), choice),
+                    Err(StopFault::NoSuchCall)
+                )
+            );
+        }
+    }
+    Ok(())
+}
+
+fn leaves_old_or_new(
+    rt: &impl Abort,
+    alloc: Global,
+    host: &MemHost,
+    k: u64,
+    choice: Choice,
+) -> Result<bool, AllocError> {
+    match host.stopped_at(k, choice) {
+        Ok(mut left) => {
+            let _status = run(rt, alloc, "state A", &mut left)?;
+            Ok(has_said(&left, "0 NOT_FORMATTED\n") || has_said(&left, "0 NORMAL\n"))
+        }
+        Err(_) => Ok(false),
+    }
+}
+
 fn has_said(host: &MemHost, said: &str) -> bool {
     host.said() == said.as_bytes()
 }
 
-// A host whose directories hold what the letters say, and whose calls of these numbers fail half-way.
+// A host whose directories hold what the letters say, and whose calls of these numbers fail.
 fn host_of(
     rt: &impl Abort,
     alloc: Global,
     dirs: &str,
-    failing: &[u64],
+    failing: &[(u64, Part)],
 ) -> Result<MemHost, NoMemory> {
     let mut fails = Vec::new(alloc);
-    for call in failing {
-        fails.push((*call, Part::Half))?;
+    for fail in failing {
+        fails.push(*fail)?;
     }
     let count = dirs
         .split(' ')
@@ -253,24 +382,41 @@ fn give(rt: &impl Abort, host: &mut MemHost, i: DirNo, letter: u8) -> Result<(),
     host.with_file(i, sub, name, b"")
 }
 
-// Runs the words over a host that has as many directories as they name.
+// Runs the words over a host that has as many directories as they name, without a script.
 fn run(
     rt: &impl Abort,
     alloc: Global,
     line: &str,
     host: &mut MemHost,
 ) -> Result<Status, AllocError> {
+    let mut none = MemSource::new(Vec::new(alloc), Vec::new(alloc));
+    run_line(rt, alloc, line, &mut none, host)
+}
+
+fn run_line(
+    rt: &impl Abort,
+    alloc: Global,
+    line: &str,
+    source: &mut MemSource,
+    host: &mut MemHost,
+) -> Result<Status, AllocError> {
     let mut words = Vec::new(alloc);
     for word in line.split(' ') {
         words.push(String::from_str(alloc, word)?)?;
     }
-    Ok(run_words(rt, alloc, &words, host))
+    Ok(run_words(rt, alloc, &words, source, host))
 }
 
-fn run_words(rt: &impl Abort, alloc: Global, words: &[String], host: &mut MemHost) -> Status {
-    if let Some(dirs) = states_asked(words) {
-        assert!(rt; dirs.len() == host.count() as usize);
-        return namenode(alloc, words, host);
+fn run_words(
+    rt: &impl Abort,
+    alloc: Global,
+    words: &[String],
+    source: &mut MemSource,
+    host: &mut MemHost,
+) -> Status {
+    if let Some(command) = command_of(words) {
+        assert!(rt; command.dirs().len() == host.count() as usize);
+        return namenode(alloc, words, source, host);
     }
-    namenode(alloc, words, host)
+    namenode(alloc, words, source, host)
 }

@@ -2,10 +2,37 @@
 ghost use Rattle.std.specs.Prelude.{IfOk, ◌∷◌, ◌++◌, codes, MatchOption, ◌≡◌, ◌≢◌, ◌<◌, ◌≤◌, ◌↔◌, List, [], length, IsTrue, IfSome, IfNone, All, map};
 ghost use Rattle.std.specs.List.{AllPairs};
 ghost use Rattle.std.specs.String.{string_bytes};
-ghost use Rattle.nn_cli.specs.Words.{Word as W, texts, is_plain as plain, AreDirs, Spell, AskStates, HaveNoReading};
+ghost use Rattle.nn_cli.specs.Words.{Word as W, texts, is_plain as plain, AreDirs, Spell};
+ghost use Rattle.nn_cli.specs.FormatWords.{IsEnd};
+ghost use Rattle.nn_cli.specs.Commands.{AskStates, AskNoStates, AskDry, Ask, HaveNoReading, AskFor, dirs_in};
 
+mod format;
+mod options;
+#[cfg(test)]
+mod tests;
+
+use format::format_asked;
+use nn_base::Word;
 use std::alloc::{AllocError, Global};
 use thiserror::Error;
+
+/// What the words of a command line ask for.
+#[derive(Clone, Copy)]
+pub enum Command<'a> {
+    /// `state DIRS`: what each directory is in the middle of.
+    State {
+        dirs: &'a [String],
+    },
+    /// `format --cluster C --namespace N DIRS`: new name directories of the cluster whose id is C, with the number N of a
+    /// namespace.
+    Format {
+        cluster: Word,
+        namespace: u32,
+        dirs: &'a [String],
+    },
+    /// `dry`: a script on a namespace in memory alone. It has no directories.
+    Dry,
+}
 
 /// Why words give no directories.
 #[derive(Clone, Copy, Debug, PartialEq, Eq, Error)]
@@ -23,15 +50,48 @@ const MOST_DIRS: usize = 8;
 
 /// The directories of the words, in the order of the words.
 pub fn dirs_of(alloc: Global, words: &[String]) -> Result<Vec<String>, WordsFault>
-    ensures ok { IfOk result (λ dirs. AskStates (texts words.now) (texts dirs.items)) }
+    ensures ok { IfOk result (λ dirs. Ask (texts words.now) (texts dirs.items)) }
     ensures usage { (result ≡ Err WordsFault.Usage) ↔ HaveNoReading (texts words.now) }
 {
-    let Some(dirs) = states_asked(words) else {
+    let Some(command) = command_of(words) else {
         return Err(WordsFault::Usage);
     };
-    match copied(alloc, dirs) {
+    match copied(alloc, command.dirs()) {
         Ok(dirs) => Ok(dirs),
         Err(_) => Err(WordsFault::Memory),
+    }
+}
+
+impl<'a> Command<'a> {
+    /// The directories on which it is done, in the order of the words.
+    pub fn dirs(&self) -> &'a [String]
+        ensures { texts result.now ≡ dirs_in self.now }
+    {
+        match self {
+            Command::State { dirs } | Command::Format { dirs, .. } => dirs,
+            Command::Dry => &[],
+        }
+    }
+}
+
+/// The command that the words ask for, or none where they have no reading.
+pub fn command_of(words: &[String]) -> Option<Command<'_>>
+    ensures some { IfSome result (AskFor (texts words.now)) }
+    ensures none { IfNone result (HaveNoReading (texts words.now)) }
+{
+    if let Some(dirs) = states_asked(words) {
+        return Some(Command::State { dirs });
+    }
+    if is_dry(words) {
+        return Some(Command::Dry);
+    }
+    match format_asked(words) {
+        Some((cluster, namespace, dirs)) => Some(Command::Format {
+            cluster,
+            namespace,
+            dirs,
+        }),
+        None => None,
     }
 }
 
@@ -45,10 +105,10 @@ fn copied(alloc: Global, words: &[String]) -> Result<Vec<String>, AllocError>
     Ok(copies)
 }
 
-/// The directories whose states the words ask for, or none where the words have no reading.
+/// The directories whose states the words ask for, or none where they ask for no states.
 pub fn states_asked(words: &[String]) -> Option<&[String]>
     ensures asked { IfSome result (λ dirs. AskStates (texts words.now) (texts dirs.now)) }
-    ensures unread { IfNone result (HaveNoReading (texts words.now)) }
+    ensures unread { IfNone result (AskNoStates (texts words.now)) }
 {
     let (command, later) = words.split_first()?;
     if command.as_str() != "state" {
@@ -56,6 +116,26 @@ pub fn states_asked(words: &[String]) -> Option<&[String]>
     }
     let dirs = spelled(later)?;
     if are_dirs(dirs) { Some(dirs) } else { None }
+}
+
+// Whether the words ask for `dry`, which takes no directories and no options.
+fn is_dry(words: &[String]) -> bool
+    ensures { IsTrue result ↔ AskDry (texts words.now) }
+{
+    match words.split_first() {
+        Some((command, later)) => command.as_str() == "dry" && is_end(later),
+        None => false,
+    }
+}
+
+// Whether nothing is left, or a last `--`.
+fn is_end(words: &[String]) -> bool
+    ensures { IsTrue result ↔ IsEnd (texts words.now) }
+{
+    match after_mark(words) {
+        Some(later) => later.is_empty(),
+        None => words.is_empty(),
+    }
 }
 
 // The directories that these words spell.
@@ -140,49 +220,4 @@ fn is_none_of(dir: &str, others: &[String]) -> bool
     ensures { IsTrue result ↔ All (λ other. dir.now ≢ string_bytes other) others.now }
 {
     others.iter().all(|other| dir != other.as_str())
-}
-
-#[cfg(test)]
-mod tests {
-    use super::*;
-    use std::test::Fail;
-
-    // Words with one space between them, and their directories where they have a reading.
-    const ROWS: [(&str, Option<&str>); 14] = [
-        ("", None),
-        ("fly A", None),
-        ("state", None),
-        ("state --", None),
-        ("state ", None),
-        ("state A A", None),
-        ("state -x A", None),
-        ("state A -- B", None),
-        ("state a b c d e f g h i", None),
-        ("state a b c d e f g h", Some("a b c d e f g h")),
-        ("state B A", Some("B A")),
-        ("state A --", Some("A")),
-        ("state - A", Some("- A")),
-        ("state -- -x --", Some("-x --")),
-    ];
-
-    fn split(alloc: Global, line: &str) -> Result<Vec<String>, AllocError> {
-        let mut words = Vec::new(alloc);
-        for word in line.split(' ') {
-            words.push(String::from_str(alloc, word)?)?;
-        }
-        Ok(words)
-    }
-
-    #[test]
-    fn words_give_their_directories_or_usage(rt: HostRuntime) -> Result<(), Fail> {
-        for (line, dirs) in ROWS {
-            let found = dirs_of(rt.alloc(), &split(rt.alloc(), line)?);
-            match dirs {
-                Some(dirs) => assert_eq!(rt; found?, split(rt.alloc(), dirs)?, "{line}"),
-                None => assert_eq!(rt; found.err(), Some(WordsFault::Usage), "{line}"),
-            }
-        }
-        assert_eq!(rt; dirs_of(rt.alloc(), &[]).err(), Some(WordsFault::Usage));
-        Ok(())
-    }
 }
