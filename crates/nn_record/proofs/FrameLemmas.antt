@@ -1,8 +1,8 @@
 -- The parts of a record make its text.
-use Rattle.std.proofs.Common.{◌≡◌, ℕ, ◌+◌, ◌-◌, ◌≤◌, List, ◌∷◌, ◌++◌, length, take, refl, sym, ap, subst, ◌∙◌, append_assoc, arith, length-append}
+use Rattle.std.proofs.Common.{◌≡◌, ℕ, ◌+◌, ◌-◌, ◌^◌, ◌<◌, ◌≤◌, List, ◌∷◌, ◌++◌, length, take, refl, sym, ap, subst, ◌∙◌, append_assoc, arith, length-append}
 use Rattle.std.proofs.lemmas.List.{take_at}
 use Rattle.nn_wire.specs.Crc32.{crc32_of}
-use Rattle.nn_record.specs.Spelling.{u32, u64, unsealed, sealed}
+use Rattle.nn_record.specs.Spelling.{u32, u64, unsealed, sealed, BeginsWithFrame}
 
 pub length-u32 : (n : ℕ) → length (u32 n) ≡ 4
 unfolding u32
@@ -32,6 +32,7 @@ pub record Parted (bytes after body : List ℕ) (opcode len id : ℕ) : Type 0 w
   pub then_len : after_opcode ≡ u32 len ++ after_len
   pub then_id : after_len ≡ u64 id ++ after_id
   pub some : 12 ≤ len
+  pub most : len ≤ 65531
   pub size : length body ≡ len - 12
   pub then_body : after_id ≡ body ++ after
 
@@ -57,3 +58,19 @@ frame_found bytes after_body after body opcode len id sum p s crc =
     let size : length text ≡ 1 + len = omega (arith, length-unsealed opcode id body, p.some, p.size) in
     let front : take (1 + len) bytes ≡ text = ap (take (1 + len)) e ∙ take_at text after_body (1 + len) size in
     then bytes text after_body (u32 (crc32_of text)) after e (subst (λ (n : ℕ). after_body ≡ u32 n ++ after) (crc ∙ ap crc32_of front) s)
+
+-- an opcode, a length, an id and a checksum have seventeen bytes
+pub frame_begins : (bytes body after : List ℕ) (opcode id : ℕ) → 1 ≤ id → id < 2 ^ 63 → length body ≤ 65519 → bytes ≡ sealed (unsealed opcode id body) ++ after → BeginsWithFrame bytes
+unfolding sealed
+frame_begins bytes body after opcode id first last short e =
+    let text = unsealed opcode id body in
+    record {
+      opcode = opcode;
+      id = id;
+      body = body;
+      after = after;
+      first = first;
+      last = last;
+      size = omega (arith, length-append text (u32 (crc32_of text)), length-unsealed opcode id body, length-u32 (crc32_of text), short);
+      text = e;
+    }

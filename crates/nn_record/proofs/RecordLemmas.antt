@@ -62,12 +62,12 @@ id_again : (id : ℕ) (rest : List ℕ) → 1 ≤ id → id < 2 ^ 63 → id_at (
 unfolding id_at
 id_again id rest first last = rw (long_again id rest last, le-leb 1 id first) refl
 
-rest_again : (body rest : List ℕ) → rest_at (4 + 8 + length body) (body ++ rest) ≡ Some (body, rest)
+rest_again : (body rest : List ℕ) → 4 + 8 + length body ≤ 65531 → rest_at (4 + 8 + length body) (body ++ rest) ≡ Some (body, rest)
 unfolding rest_at
-rest_again body rest =
-    rw (le-ltb (4 + 8 + length body) 12 (omega arith), text_again body rest (4 + 8 + length body - 12) (omega arith)) refl
+rest_again body rest short =
+    rw (le-ltb (4 + 8 + length body) 12 (omega arith), le-ltb 65531 (4 + 8 + length body) short, text_again body rest (4 + 8 + length body - 12) (omega arith)) refl
 
-frame_again : (opcode id : ℕ) (body rest : List ℕ) → 4 + 8 + length body < 2 ^ 32 → 1 ≤ id → id < 2 ^ 63 → crc32_of (unsealed opcode id body) < 2 ^ 32 → frame_at (sealed (unsealed opcode id body) ++ rest) ≡ Some ((opcode, id, body), rest)
+frame_again : (opcode id : ℕ) (body rest : List ℕ) → 4 + 8 + length body ≤ 65531 → 1 ≤ id → id < 2 ^ 63 → crc32_of (unsealed opcode id body) < 2 ^ 32 → frame_at (sealed (unsealed opcode id body) ++ rest) ≡ Some ((opcode, id, body), rest)
 unfolding frame_at byte_at
 frame_again opcode id body rest short first last small =
     let text = unsealed opcode id body in
@@ -78,7 +78,7 @@ frame_again opcode id body rest short first last small =
     let r1 = u32 len ++ r2 in
     let front : take (1 + len) (opcode ∷ r1) ≡ text = ap (take (1 + len)) (sym (unsealed_parts opcode id body r4)) ∙ take_at text r4 (1 + len) (omega (arith, length-unsealed opcode id body)) in
     ap frame_at (frame_parts opcode id body rest)
-    ∙ rw (u32_again len r2 short, id_again id r3 first last, rest_again body r4, u32_again (crc32_of text) rest small, front, eq-eqb (crc32_of text) (crc32_of text) refl) refl
+    ∙ rw (u32_again len r2 (omega arith), id_again id r3 first last, rest_again body r4 short, u32_again (crc32_of text) rest small, front, eq-eqb (crc32_of text) (crc32_of text) refl) refl
 
 pub record_again : (r : Record) (rest : List ℕ) → IsRecord r → IsBytes (spelling r ++ rest) → record_at (spelling r ++ rest) ≡ Some (r, rest)
 unfolding record_at spelling sealed

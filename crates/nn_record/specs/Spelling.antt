@@ -68,6 +68,18 @@ sealed text = text ++ u32 (crc32_of text)
 unfoldable pub spelling : Record → List ℕ
 spelling r = sealed (unsealed (opcode_of r.op) r.id (body_of r.op))
 
+-- Bytes that begin with a whole frame: all that its length counts is there, the checksum agrees, and it is no longer than a
+-- record may be. Whether the body has a reading isn't said.
+pub record BeginsWithFrame (bytes : List ℕ) : Type 0 where
+  pub opcode : ℕ
+  pub id : ℕ
+  pub body : List ℕ
+  pub after : List ℕ
+  pub first : 1 ≤ id
+  pub last : id < 2 ^ 63
+  pub size : length (sealed (unsealed opcode id body)) ≤ 65536
+  pub text : bytes ≡ sealed (unsealed opcode id body) ++ after
+
 -- what has a spelling: a record with an id from 1 to 2^63 - 1 whose fields are in their ranges
 pub record IsRecord (r : Record) : Type 0 where
   pub first : 1 ≤ r.id

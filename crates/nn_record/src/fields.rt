@@ -4,6 +4,7 @@ ghost use Rattle.std.specs.Int.{w16, w32, w64};
 ghost use Rattle.nn_base.specs.Paths.{IsPath, text_of};
 ghost use Rattle.nn_record.specs.Ops.{IsLong, IsMode, IsLabel};
 ghost use Rattle.nn_record.specs.Spelling.{u16, u32, u64, path, name, bound};
+ghost use Rattle.nn_record.specs.declared.unread.Unread.TheVariants.{NoRecord};
 ghost use Rattle.nn_record.specs.Reading as reading;
 
 use crate::numbers::{first_u16, first_u32, first_u64};
@@ -21,6 +22,7 @@ const LONGS: u64 = 1 << 63;
 pub(crate) fn take_u8(rest: &mut &[u8]) -> Result<u8, Unread>
     ensures found { IfOk result (λ n. rest.old.now ≡ n ∷ rest.new.now) }
     ensures exact { reading.Gives result rest.new.now (reading.byte_at rest.old.now) }
+    ensures err { IfErr result (λ e. e ≡ NoRecord) }
 {
     match *rest {
         [byte, after @ ..] => {
@@ -43,6 +45,7 @@ pub(crate) fn take_u16(rest: &mut &[u8]) -> Result<u16, Unread>
 pub(crate) fn take_u32(rest: &mut &[u8]) -> Result<u32, Unread>
     ensures found { IfOk result (λ n. (n < 2 ^ 32) × (rest.old.now ≡ u32 n ++ rest.new.now)) }
     ensures exact { reading.Gives result rest.new.now (reading.number_at w32 rest.old.now) }
+    ensures err { IfErr result (λ e. e ≡ NoRecord) }
 {
     let (number, after) = first_u32(rest).ok_or(Unread::NoRecord)?;
     *rest = after;
@@ -52,6 +55,7 @@ pub(crate) fn take_u32(rest: &mut &[u8]) -> Result<u32, Unread>
 pub(crate) fn take_u64(rest: &mut &[u8]) -> Result<u64, Unread>
     ensures found { IfOk result (λ n. (n < 2 ^ 64) × (rest.old.now ≡ u64 n ++ rest.new.now)) }
     ensures exact { reading.Gives result rest.new.now (reading.number_at w64 rest.old.now) }
+    ensures err { IfErr result (λ e. e ≡ NoRecord) }
 {
     let (number, after) = first_u64(rest).ok_or(Unread::NoRecord)?;
     *rest = after;
@@ -64,6 +68,7 @@ pub(crate) fn take_text<'a>(len: usize, rest: &mut &'a [u8]) -> Result<&'a [u8],
     ensures found { IfOk result (λ text. (length text.now ≡ len) × (rest.old.now ≡ text.now ++ rest.new.now)) }
     ensures exact { IfOk result (λ text. reading.text_at len rest.old.now ≡ Some (text.now, rest.new.now)) }
     ensures none { IfErr result (λ e. reading.Fails e (reading.text_at len rest.old.now)) }
+    ensures err { IfErr result (λ e. e ≡ NoRecord) }
 {
     let (text, after) = rest.split_at_checked(len).ok_or(Unread::NoRecord)?;
     *rest = after;
@@ -75,6 +80,7 @@ pub(crate) fn take_text<'a>(len: usize, rest: &mut &'a [u8]) -> Result<&'a [u8],
 pub(crate) fn take_long(rest: &mut &[u8]) -> Result<u64, Unread>
     ensures found { IfOk result (λ n. IsLong n × (rest.old.now ≡ u64 n ++ rest.new.now)) }
     ensures exact { reading.Gives result rest.new.now (reading.long_at rest.old.now) }
+    ensures err { IfErr result (λ e. e ≡ NoRecord) }
 {
     let number = take_u64(rest)?;
     if number < LONGS {

@@ -1,8 +1,9 @@
 // Reads a record at the front of bytes.
-ghost use Rattle.std.specs.Prelude.{◌≡◌, ℕ, ◌<◌, ◌≤◌, ◌^◌, ◌++◌, ◌-◌, List, length, drop, Some, IfOk, IfErr, IfSome, IfNone};
+ghost use Rattle.std.specs.Prelude.{◌≡◌, ℕ, ◌<◌, ◌≤◌, ◌^◌, ◌++◌, ◌-◌, List, length, drop, Some, IfOk, IfErr, IfSome, IfNone, OnErr};
 ghost use Rattle.nn_record.specs.Ops.{opcode_of, IsOp, IsHeld};
-ghost use Rattle.nn_record.specs.Spelling.{unsealed, sealed, u64, spelling, Begins};
+ghost use Rattle.nn_record.specs.Spelling.{unsealed, sealed, u64, spelling, Begins, BeginsWithFrame};
 ghost use Rattle.nn_record.specs.declared.transaction.Record.{Record};
+ghost use Rattle.nn_record.specs.declared.unread.Unread.TheVariants.{NoRecord, Memory};
 ghost use Rattle.nn_record.specs.Reading.{Fails, Gives};
 ghost use Rattle.nn_record.specs.RecordReading as reading;
 
@@ -17,6 +18,9 @@ use std::alloc::Global;
 /// How many of the bytes that the length counts stand before the body: its own and those of the id.
 const HEAD: usize = 12;
 
+/// The most that the length may be: a record has at most 65,536 bytes, and neither the opcode nor the checksum is counted.
+const GREATEST_LENGTH: usize = 65_531;
+
 /// The parts of a record.
 #[derive(Clone, Copy)]
 struct Frame<'a> {
@@ -29,6 +33,7 @@ struct Frame<'a> {
 fn take_id(rest: &mut &[u8]) -> Result<u64, Unread>
     ensures found { IfOk result (λ id. (1 ≤ id) × (id < 2 ^ 63) × (rest.old.now ≡ u64 id ++ rest.new.now)) }
     ensures exact { Gives result rest.new.now (reading.id_at rest.old.now) }
+    ensures err { IfErr result (λ e. e ≡ NoRecord) }
 {
     let id = take_long(rest)?;
     if id == 0 {
@@ -40,11 +45,12 @@ fn take_id(rest: &mut &[u8]) -> Result<u64, Unread>
 
 #[tactic(auto, unfolding(crate::specs::RecordReading::rest_at))]
 fn take_rest<'a>(len: usize, rest: &mut &'a [u8]) -> Result<&'a [u8], Unread>
-    ensures found { IfOk result (λ body. (12 ≤ len) × (length body.now ≡ len - 12) × (rest.old.now ≡ body.now ++ rest.new.now)) }
+    ensures found { IfOk result (λ body. (12 ≤ len) × (len ≤ 65531) × (length body.now ≡ len - 12) × (rest.old.now ≡ body.now ++ rest.new.now)) }
     ensures exact { IfOk result (λ body. reading.rest_at len rest.old.now ≡ Some (body.now, rest.new.now)) }
     ensures none { IfErr result (λ e. Fails e (reading.rest_at len rest.old.now)) }
+    ensures err { IfErr result (λ e. e ≡ NoRecord) }
 {
-    if len < HEAD {
+    if len < HEAD || len > GREATEST_LENGTH {
         return Err(Unread::NoRecord);
     }
     take_text(len - HEAD, rest)
@@ -53,9 +59,11 @@ fn take_rest<'a>(len: usize, rest: &mut &'a [u8]) -> Result<&'a [u8], Unread>
 #[tactic(auto, unfolding(crate::specs::RecordReading::frame_at))]
 fn take_frame<'a>(rest: &mut &'a [u8]) -> Result<Frame<'a>, Unread>
     ensures id { IfOk result (λ frame. (1 ≤ frame.id) × (frame.id < 2 ^ 63)) }
+    ensures size { IfOk result (λ frame. length frame.body.now ≤ 65519) }
     ensures found { IfOk result (λ frame. rest.old.now ≡ sealed (unsealed frame.opcode frame.id frame.body.now) ++ rest.new.now) }
     ensures exact { IfOk result (λ frame. reading.frame_at rest.old.now ≡ Some ((frame.opcode, frame.id, frame.body.now), rest.new.now)) }
     ensures none { IfErr result (λ e. Fails e (reading.frame_at rest.old.now)) }
+    ensures err { IfErr result (λ e. e ≡ NoRecord) }
 {
     let whole = *rest;
     let opcode = take_u8(rest)?;
@@ -69,13 +77,15 @@ fn take_frame<'a>(rest: &mut &'a [u8]) -> Result<Frame<'a>, Unread>
     Ok(Frame { opcode, id, body })
 }
 
-/// Takes a record, and leaves what follows it.
-#[tactic(auto, unfolding(crate::specs::RecordReading::record_at, crate::specs::Spelling::spelling))]
+/// Takes a record, and leaves what follows it. Only the fields of a whole frame take memory, so no length of a damaged
+/// record reserves any.
+#[tactic(auto, using(crate::proofs::FrameLemmas::frame_begins), unfolding(crate::specs::RecordReading::record_at, crate::specs::Spelling::spelling))]
 pub(crate) fn take_record(alloc: Global, rest: &mut &[u8]) -> Result<Record, Unread>
     ensures id { IfOk result (λ r. (1 ≤ r.id) × (r.id < 2 ^ 63)) }
     ensures op { IfOk result (λ r. IsOp r.op × IsHeld r.op) }
     ensures found { IfOk result (λ r. rest.old.now ≡ spelling r ++ rest.new.now) }
     ensures exact { Gives result rest.new.now (reading.record_at rest.old.now) }
+    ensures memory { IfErr result (λ e. e ≡ Memory → BeginsWithFrame rest.old.now) }
 {
     let frame = take_frame(rest)?;
     let mut body = frame.body;
@@ -94,6 +104,7 @@ pub(crate) fn first_record(alloc: Global, bytes: &[u8]) -> Result<Option<(Record
     ensures some { IfOk result (λ found. IfSome found (λ at. Begins bytes.now at.0 (drop at.1 bytes.now))) }
     ensures len { IfOk result (λ found. IfSome found (λ at. (at.1 ≡ length (spelling at.0)) × (at.1 ≤ length bytes.now))) }
     ensures none { IfOk result (λ found. IfNone found ((r : Record) (rest : List ℕ) → ¬ Begins bytes.now r rest)) }
+    ensures memory { OnErr result (BeginsWithFrame bytes.now) }
 {
     let mut rest = bytes;
     match take_record(alloc, &mut rest) {

@@ -1,8 +1,8 @@
 // A transaction with its place in the journal.
-ghost use Rattle.std.specs.Prelude.{◌≡◌, ◌↔◌, ℕ, ◌+◌, ◌≤◌, ◌++◌, List, length, take, drop, Some, None, IfOk, IfSome, vec_len, vec_capacity};
+ghost use Rattle.std.specs.Prelude.{◌≡◌, ◌↔◌, ℕ, ◌+◌, ◌≤◌, ◌++◌, List, length, take, drop, Some, None, IfOk, IfSome, OnErr, vec_len, vec_capacity};
 ghost use Rattle.nn_record.specs.declared.transaction.Record.{Record};
 ghost use Rattle.nn_record.specs.Ops.{IsOp};
-ghost use Rattle.nn_record.specs.Spelling.{spelling, IsRecord, Begins, NoneBeginsAnother};
+ghost use Rattle.nn_record.specs.Spelling.{spelling, IsRecord, Begins, BeginsWithFrame, NoneBeginsAnother};
 
 use crate::Op;
 use crate::reading::first_record;
@@ -58,6 +58,9 @@ impl Record {
         // What was put is got again, whatever follows.
         ensures again { IfOk result (λ found. (r : Record) (rest : List ℕ) → Begins bytes.now r rest → found ≡ Some (r, length (spelling r))) }
         ensures apart { NoneBeginsAnother }
+
+        // Memory is asked for only once a whole frame was seen: no length of a damaged record reserves any.
+        ensures memory { OnErr result (BeginsWithFrame bytes.now) }
     {
         first_record(alloc, bytes)
     }

@@ -13,8 +13,9 @@ slice_bounds-crc32-end c =
       then_len = c.in_ok-len.ensures.found.1;
       then_id = c.in_ok-id.ensures.found.2;
       some = c.in_ok-body.ensures.found.0;
-      size = c.in_ok-body.ensures.found.1;
-      then_body = c.in_ok-body.ensures.found.2;
+      most = c.in_ok-body.ensures.found.1;
+      size = c.in_ok-body.ensures.found.2;
+      then_body = c.in_ok-body.ensures.found.3;
     } in
     sym (length-take-le _ _ (frame_long _ _ _ _ _ _ parts))
 
@@ -28,7 +29,8 @@ returns-clause-found c =
       then_len = c.in_ok-len.ensures.found.1;
       then_id = c.in_ok-id.ensures.found.2;
       some = c.in_ok-body.ensures.found.0;
-      size = c.in_ok-body.ensures.found.1;
-      then_body = c.in_ok-body.ensures.found.2;
+      most = c.in_ok-body.ensures.found.1;
+      size = c.in_ok-body.ensures.found.2;
+      then_body = c.in_ok-body.ensures.found.3;
     } in
     frame_found _ _ _ _ _ _ _ _ parts c.in_ok-sum.ensures.found.1 (c.if-sum-crc32.false ∙ c.crc32.ensures)
