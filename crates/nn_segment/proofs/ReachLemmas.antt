@@ -3,10 +3,10 @@ use Rattle.std.proofs.Common.{◌≡◌, ℕ, ◌+◌, ◌-◌, ◌<◌, ◌≤�
 use Rattle.std.proofs.lemmas.List.{append-nil, drop_at, length-drop}
 use Rattle.std.proofs.lemmas.Grind.{flat_map-append}
 use Rattle.nn_record.specs.declared.transaction.Record.{Record}
-use Rattle.nn_record.specs.Spelling.{spelling, IsRecord, Begins}
+use Rattle.nn_record.specs.Spelling.{spelling, IsRecord, Begins, BeginsWithFrame}
 use Rattle.nn_record.proofs.RecordLemmas.{length-spelling}
 use Rattle.nn_segment.specs.Segment.{spelled, AreFrom, last_id}
-use Rattle.nn_segment.specs.Reaching.{IsNext, NoneNext, IsWhole}
+use Rattle.nn_segment.specs.Reaching.{IsNext, NoneNext, IsWhole, ReachFrame}
 use Rattle.nn_segment.proofs.RunLemmas.{rest_is, none_is_longer}
 
 pub record Reached (bytes : List ℕ) (first : ℕ) (last : Option ℕ) (end next : ℕ) : Type 0 where
@@ -82,3 +82,11 @@ less_is_left bytes end next len found =
 
 pub whole_reached : (bytes : List ℕ) (first : ℕ) (last : Option ℕ) (end next : ℕ) (so_far : Reached bytes first last end next) → NoneNext (take (length bytes - end) (drop end bytes)) next → IsWhole bytes first so_far.rs
 whole_reached bytes first last end next so_far none = all_reached bytes first last end next so_far (subst (λ (t : List ℕ). NoneNext t next) (rest_is bytes end) none)
+
+pub frame_reached : (bytes : List ℕ) (first : ℕ) (last : Option ℕ) (end next : ℕ) → Reached bytes first last end next → BeginsWithFrame (take (length bytes - end) (drop end bytes)) → ReachFrame bytes first
+frame_reached bytes first last end next so_far frame =
+    record {
+      rs = so_far.rs;
+      begin = record { ids = so_far.ids; after = drop end bytes; text = so_far.text };
+      frame = subst BeginsWithFrame (rest_is bytes end) frame;
+    }

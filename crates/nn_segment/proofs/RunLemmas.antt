@@ -6,8 +6,8 @@ use Rattle.std.specs.Cmp.Lexicographic.{pointwise, same_text, other_text}
 use Rattle.nn_record.specs.declared.transaction.Record.{Record}
 use Rattle.nn_record.specs.Spelling.{spelling, IsRecord, Begins}
 use Rattle.nn_record.proofs.RecordLemmas.{none_begins_another}
-use Rattle.nn_segment.specs.Segment.{header, has_header, spelled, AreFrom, IsRun, IsIntactRun, OneIntactRun, last_id, end_of}
-use Rattle.nn_segment.specs.Reaching.{NoneNext, BeginWith, IsWhole, IsAll}
+use Rattle.nn_segment.specs.Segment.{header, has_header, spelled, AreFrom, IsRun, IsIntactRun, OneIntactRun, ReachesFrame, last_id, end_of}
+use Rattle.nn_segment.specs.Reaching.{NoneNext, BeginWith, IsWhole, IsAll, ReachFrame}
 
 -- ---- the spellings of records
 
@@ -137,3 +137,14 @@ told_within bytes layout first last len h all =
     let begin = all.1.begin in
     let parts : drop 8 bytes ≡ spelled all.0 ++ begin.after = sym (rest_is bytes 8) ∙ begin.text in
     omega (arith, all.3, header_within bytes layout h, ap length parts, length-append (spelled all.0) begin.after, length-drop 8 bytes)
+
+pub told_frame : (bytes : List ℕ) (layout : ℤ) (first : ℕ) → has_header bytes layout ≡ true → ReachFrame (take (length bytes - 8) (drop 8 bytes)) first → ReachesFrame bytes layout first
+told_frame bytes layout first h reach =
+    let behind = subst (λ (t : List ℕ). ReachFrame t first) (rest_is bytes 8) reach in
+    record {
+      rs = behind.rs;
+      after = behind.begin.after;
+      ids = behind.begin.ids;
+      text = header_there bytes layout h ∙ ap (λ t. header layout ++ t) behind.begin.text ∙ sym (append_assoc (header layout) (spelled behind.rs) behind.begin.after);
+      frame = behind.frame;
+    }

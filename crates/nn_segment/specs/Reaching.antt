@@ -1,7 +1,7 @@
 -- How far the records of a segment reach.
 use Rattle.std.specs.Prelude.{◌≡◌, ◌≢◌, ℕ, ◌≤◌, List, ◌++◌, length, drop, Option}
 use Rattle.nn_record.specs.declared.transaction.Record.{Record}
-use Rattle.nn_record.specs.Spelling.{spelling, Begins}
+use Rattle.nn_record.specs.Spelling.{spelling, Begins, BeginsWithFrame}
 use Rattle.nn_segment.specs.Segment.{AreFrom, spelled, last_id}
 
 -- a record with this id stands at the front, and has so many bytes
@@ -22,6 +22,12 @@ pub record BeginWith (bytes : List ℕ) (first : ℕ) (rs : List Record) : Type 
 pub record IsWhole (bytes : List ℕ) (first : ℕ) (rs : List Record) : Type 0 where
   pub begin : BeginWith bytes first rs
   pub longest : (others : List Record) → BeginWith bytes first others → length others ≤ length rs
+
+-- behind some records from an id on stands a whole frame
+pub record ReachFrame (bytes : List ℕ) (first : ℕ) : Type 0 where
+  pub rs : List Record
+  pub begin : BeginWith bytes first rs
+  pub frame : BeginsWithFrame begin.after
 
 -- all records from an id on: the id of the last, and how many bytes they have
 abbrev pub IsAll : List ℕ → ℕ → Option ℕ → ℕ → Type 0

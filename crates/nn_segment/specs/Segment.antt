@@ -3,7 +3,7 @@ use Rattle.std.specs.Prelude.{◌≡◌, ℕ, ◌+◌, ◌≤◌, ℤ, Bool, Lis
 use Rattle.std.specs.Int.{w32, to_be_bytes, cast_unsigned}
 use Rattle.std.specs.List.{flat_map, starts_with}
 use Rattle.nn_record.specs.declared.transaction.Record.{Record}
-use Rattle.nn_record.specs.Spelling.{spelling, IsRecord}
+use Rattle.nn_record.specs.Spelling.{spelling, IsRecord, BeginsWithFrame}
 
 -- the layout, a signed number of four bytes with the highest first, and four zero bytes
 unfoldable pub header : ℤ → List ℕ
@@ -34,6 +34,14 @@ pub record IsIntactRun (bytes : List ℕ) (layout : ℤ) (first : ℕ) (rs : Lis
 -- bytes have one intact run
 abbrev pub OneIntactRun : Type 0
 OneIntactRun = (bytes : List ℕ) (layout : ℤ) (first : ℕ) (rs others : List Record) → IsIntactRun bytes layout first rs → IsIntactRun bytes layout first others → rs ≡ others
+
+-- The header has the layout, and behind it and some records from the first id on stands a whole frame.
+pub record ReachesFrame (bytes : List ℕ) (layout : ℤ) (first : ℕ) : Type 0 where
+  pub rs : List Record
+  pub after : List ℕ
+  pub ids : AreFrom first rs
+  pub text : bytes ≡ header layout ++ spelled rs ++ after
+  pub frame : BeginsWithFrame after
 
 -- ---- what is told of a run
 

@@ -1,8 +1,9 @@
 // The records of a segment that are whole and in order.
-ghost use Rattle.std.specs.Prelude.{◌≡◌, ◌+◌, ◌≤◌, List, length, IfOk, IfSome, IfNone};
+ghost use Rattle.std.specs.Prelude.{◌≡◌, ◌+◌, ◌≤◌, List, length, IfOk, IfSome, IfNone, OnErr};
 ghost use Rattle.nn_record.specs.declared.transaction.Record.{Record};
-ghost use Rattle.nn_segment.specs.Segment.{IsIntactRun, OneIntactRun, last_id, end_of};
-ghost use Rattle.nn_segment.specs.Reaching.{IsNext, IsAll, NoneNext};
+ghost use Rattle.nn_record.specs.Spelling.{BeginsWithFrame};
+ghost use Rattle.nn_segment.specs.Segment.{IsIntactRun, OneIntactRun, ReachesFrame, last_id, end_of};
+ghost use Rattle.nn_segment.specs.Reaching.{IsNext, IsAll, NoneNext, ReachFrame};
 
 use crate::header::{HEADER_LEN, has_header};
 use nn_base::{NoMemory, Txid};
@@ -25,6 +26,9 @@ pub fn intact_run(alloc: Global, bytes: &[u8], layout: i32, first: Txid) -> Resu
     ensures run { IfOk result (λ run. (rs : List Record) × IsIntactRun bytes.now layout first rs × (run.last ≡ last_id rs) × (run.end ≡ end_of bytes.now layout rs)) }
     ensures within { IfOk result (λ run. run.end ≤ length bytes.now) }
     ensures one { OneIntactRun }
+
+    // No length of a damaged record reserves memory: a whole frame is there before any is asked for.
+    ensures memory { OnErr result (ReachesFrame bytes.now layout first) }
 {
     if !has_header(bytes, layout) {
         return Ok(Run { last: None, end: 0 });
@@ -39,7 +43,8 @@ pub fn intact_run(alloc: Global, bytes: &[u8], layout: i32, first: Txid) -> Resu
 /// The last id of the records, and how many bytes they have.
 #[tactic(auto, using(crate::proofs::ReachLemmas::within))]
 fn run_of(alloc: Global, records: &[u8], first: Txid) -> Result<(Option<Txid>, usize), NoMemory>
-    ensures { IfOk result (λ run. IsAll records.now first run.0 run.1) }
+    ensures all { IfOk result (λ run. IsAll records.now first run.0 run.1) }
+    ensures memory { OnErr result (ReachFrame records.now first) }
 {
     let mut last = None;
     let mut end = 0;
@@ -56,6 +61,7 @@ fn run_of(alloc: Global, records: &[u8], first: Txid) -> Result<(Option<Txid>, u
 fn next_record(alloc: Global, rest: &[u8], id: u64) -> Result<Option<usize>, NoMemory>
     ensures some { IfOk result (λ found. IfSome found (λ len. IsNext rest.now id len)) }
     ensures none { IfOk result (λ found. IfNone found (NoneNext rest.now id)) }
+    ensures memory { OnErr result (BeginsWithFrame rest.now) }
 {
     match Record::get(alloc, rest)? {
         Some((record, len)) if record.id.0 == id => Ok(Some(len)),

@@ -1,5 +1,6 @@
-use Rattle.std.proofs.Common.{ℕ, None, sym, subst}
-use Rattle.nn_segment.proofs.ReachLemmas.{Reached, nothing_reached, more_reached, less_is_left, whole_reached}
+use Rattle.std.proofs.Common.{ℕ, None, sym, subst, rules}
+use Rattle.nn_segment.specs.Reaching.{ReachFrame}
+use Rattle.nn_segment.proofs.ReachLemmas.{Reached, nothing_reached, more_reached, less_is_left, whole_reached, frame_reached}
 use Rattle.nn_segment.proofs.run.run_of.Goals as goal
 
 pub loop-len-init : goal.loop-len-init
@@ -11,7 +12,12 @@ loop-len-smaller c = less_is_left c.args.records.now c.loop-len.end c.loop-len.n
 pub loop-len-preserved : goal.loop-len-preserved
 loop-len-preserved c = more_reached _ _ _ _ _ _ c.loop-len.invariant (rw c.in-Some.is at c.in_ok-len.ensures.some)
 
-pub returns : goal.returns
-returns c =
+pub returns-in_err-len-clause-memory : goal.returns-in_err-len-clause-memory
+returns-in_err-len-clause-memory c =
+    let reach : ReachFrame c.args.records.now c.args.first = frame_reached _ _ _ _ _ c.loop-len.invariant c.in_err-len.ensures.memory in
+    search rules
+
+pub returns-clause-all : goal.returns-clause-all
+returns-clause-all c =
     let so_far = c.loop-len.invariant in
     (so_far.rs, whole_reached _ _ _ _ _ so_far (rw c.in_default.is at c.in_ok-len.ensures.none), so_far.last_is, so_far.len)
