@@ -56,11 +56,18 @@ fn has_slash(part: &[u8]) -> bool
 }
 
 impl Name {
+    /// Whether bytes are a name.
+    pub fn is(bytes: &[u8]) -> bool
+        ensures { result ≡ paths.is_name bytes.now }
+    {
+        !(is_bad_name(bytes) || 255 < bytes.len() || has_slash(bytes))
+    }
+
     /// The name of these bytes. `None` stands for bytes that are no name.
     pub fn of(alloc: Global, bytes: &[u8]) -> Result<Option<Name>, NoMemory>
         ensures { IfOk result (λ found. SomeIff found (paths.is_name bytes.now ≡ true) bytes.now) }
     {
-        if is_bad_name(bytes) || 255 < bytes.len() || has_slash(bytes) {
+        if !Name::is(bytes) {
             return Ok(None);
         }
         let bytes = bytes.to_vec(alloc)?;
