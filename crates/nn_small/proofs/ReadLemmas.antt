@@ -1,10 +1,13 @@
 -- Reading a file whole.
-use Rattle.std.proofs.Common.{◌≡◌, ◌⊎◌, ⊎_elim, ℕ, ◌≤◌, List, ◌++◌, length, take, Bool, true, false, Option, Result, Ok, Err, sym, ◌∙◌, ap, subst, arith}
+use Rattle.std.proofs.Common.{◌≡◌, ◌⊎◌, ⊎_elim, ℕ, ◌≤◌, List, ◌++◌, length, take, Bool, true, false, Option, Result, Ok, Err, refl, sym, ◌∙◌, ap, subst, arith}
 use Rattle.std.specs.Prelude.{IsErrAnd}
 use Rattle.std.proofs.lemmas.List.{take_all, take_at}
 use Rattle.nn_host.specs.Listing.{bytes_of, IsRead}
-use Rattle.nn_host.specs.Moments.{State}
-use Rattle.nn_host.specs.Runs.{Looked}
+use Rattle.nn_host.specs.Disk.{Look}
+use Rattle.nn_host.specs.Moments.{State, disk_at}
+use Rattle.nn_host.specs.Calls.{Called}
+use Rattle.nn_host.specs.Runs.{OnlyAt, Looked}
+use Rattle.nn_host.proofs.WorkLemmas.{work_refl, work_once, work_trans, work_weaker}
 use Rattle.nn_small.specs.Whole.{answered}
 use Rattle.nn_small.specs.declared.read.ReadAll.{ReadAll}
 use Rattle.nn_small.specs.declared.read.ReadAll.TheVariants.{Failed, Memory}
@@ -26,6 +29,17 @@ looked_failed {T} {told} {i} {a} {b} result is p = subst (λ (x : Bool). Looked 
 -- want of memory fails no call
 pub looked_memory : {T told : Type 0} {i : ℕ} {a b : State} (result : Result T ReadAll) → IsErrAnd result (λ fault. fault ≡ Memory) → Looked told i a b true → Looked told i a b (answered result)
 looked_memory {T} {told} {i} {a} {b} result is p = subst (λ (x : Bool). Looked told i a b x) (sym (answered_memory result is)) p
+
+-- the disk stays as it is
+
+pub still_refl : {told : Type 0} {i : ℕ} {a : State} → OnlyAt told i a a (λ d. d ≡ disk_at a i)
+still_refl = work_refl (λ tells. refl)
+
+pub still_once : {T E told : Type 0} {i : ℕ} {a b : State} {r : Result T E} → Called told i Look a b r → OnlyAt told i a b (λ d. d ≡ disk_at a i)
+still_once called = work_once called (λ tells. refl) (λ tells part makes. absurd makes)
+
+pub still_then : {told : Type 0} {i : ℕ} {a b c : State} → OnlyAt told i a b (λ d. d ≡ disk_at a i) → OnlyAt told i b c (λ d. d ≡ disk_at b i) → OnlyAt told i a c (λ d. d ≡ disk_at a i)
+still_then p q = work_trans p (work_weaker q (λ tells d same. same ∙ p.ends tells))
 
 -- one call of read_at
 

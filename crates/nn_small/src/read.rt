@@ -1,7 +1,8 @@
 // Reading a file whole.
 ghost use Rattle.std.specs.Prelude.{◌≡◌, ◌≢◌, ◌⊎◌, ◌<◌, ◌≤◌, ℕ, Ok, Err, IfOk, IfErr, take, vec_len};
 ghost use Rattle.nn_host.specs.Listing.{bytes_of};
-ghost use Rattle.nn_host.specs.Runs.{Looked};
+ghost use Rattle.nn_host.specs.Moments.{disk_at};
+ghost use Rattle.nn_host.specs.Runs.{OnlyAt, Looked};
 ghost use Rattle.nn_small.specs.Whole.{answered, whole_of};
 
 use nn_base::{DirNo, FileName, Sub};
@@ -59,6 +60,7 @@ pub fn read_all<H: Host>(
     ensures within { IfOk result (λ bytes. vec_len bytes ≤ limit) }
     ensures above { IfErr result (λ fault. (size : ℕ) → fault ≡ ReadAll.TooLarge size → limit < size) }
     ensures kept { Looked H.told i.0 (H.state host.old) (H.state host.new) (answered result) }
+    ensures any_moment { OnlyAt H.told i.0 (H.state host.old) (H.state host.new) (λ d. d ≡ disk_at (H.state host.old) i.0) }
 {
     // Lent, since it is passed more than once.
     let file = &name;
@@ -86,6 +88,7 @@ fn read_front<H: Host>(
     ensures err { IfErr result (λ fault. (fault ≡ ReadAll.Failed) ⊎ (fault ≡ ReadAll.Memory)) }
     ensures within { IfOk result (λ bytes. vec_len bytes ≤ size) }
     ensures kept { Looked H.told i.0 (H.state host.old) (H.state host.new) (answered result) }
+    ensures any_moment { OnlyAt H.told i.0 (H.state host.old) (H.state host.new) (λ d. d ≡ disk_at (H.state host.old) i.0) }
 {
     let mut bytes = vec![in alloc; 0; size as usize]?;
     let count = host.read_at(i, sub, name, 0, &mut bytes)?;
