@@ -1,8 +1,11 @@
 // The table of storage states.
-ghost use Rattle.std.specs.Prelude.{◌≡◌};
+ghost use Rattle.std.specs.Prelude.{◌≡◌, IfOk, IfErr, Ok, Err};
 ghost use Rattle.nn_state.specs.Table.{table_of, tmp_count as count_of};
+ghost use Rattle.nn_state.specs.Typed.{state_of, dir_of};
 
-use crate::{Seven, StorageState, Why};
+use crate::typed::in_state;
+use crate::{Found, Seven, StorageState, Why};
+use nn_base::DirNo;
 
 /// The storage state of these folders, or why none fits: the table of Hadoop's `StorageDirectory.analyzeStorage`.
 #[tactic(auto, unfolding(crate::specs::Table::table_of))]
@@ -46,6 +49,18 @@ pub fn table(seven: Seven) -> Result<StorageState, Why>
         (true, _) => Ok(StorageState::Normal),
         (false, true) => Err(Why::PreviousAlone),
         (false, false) => Ok(StorageState::NotFormatted),
+    }
+}
+
+/// Directory `i` in the state of these folders, or why none fits.
+pub fn found(i: DirNo, seven: Seven) -> Result<Found, Why>
+    ensures state { IfOk result (λ it. table_of seven ≡ Ok (state_of it)) }
+    ensures dir { IfOk result (λ it. dir_of it ≡ i) }
+    ensures err { IfErr result (λ why. table_of seven ≡ Err why) }
+{
+    match table(seven) {
+        Ok(state) => Ok(in_state(i, state)),
+        Err(why) => Err(why),
     }
 }
 

@@ -4,8 +4,15 @@
 
 mod analysis;
 mod reading;
+mod serving;
 mod state;
+mod typed;
 
-pub use analysis::table;
+pub use analysis::{found, table};
 pub use reading::look;
+pub use serving::seat;
 pub use state::{Seven, StorageState, Why};
+pub use typed::{
+    CompleteCheckpoint, CompleteFinalize, CompleteRollback, CompleteUpgrade, Found, Fresh,
+    NonExistent, Normal, NotFormatted, Ready, RecoverCheckpoint, RecoverRollback, RecoverUpgrade,
+};
