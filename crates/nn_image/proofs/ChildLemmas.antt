@@ -27,7 +27,7 @@ use Rattle.nn_image.specs.Image.{is_child, children, child_ids, entry_of}
 use Rattle.nn_image.specs.Saving.{passed, IsAmongChildren, entry_text}
 use Rattle.nn_image.specs.Spelling.{delimited, dir_entry}
 
-is_true : (b : Bool) → T b → b ≡ true
+pub is_true : (b : Bool) → T b → b ≡ true
 is_true true h = refl
 is_true false h = absurd h
 

@@ -1,5 +1,5 @@
 -- The names that a walk over the nodes collects.
-use Rattle.std.proofs.Common.{◌≡◌, ℕ, ◌+◌, ◌≤◌, ◌<◌, Bool, true, false, List, [], ◌∷◌, ◌++◌, take, length, Option, Some, None, refl, sym, ap, subst, ◌∙◌, arith, length-append, if◌then◌else◌}
+use Rattle.std.proofs.Common.{◌≡◌, ℕ, ◌+◌, ◌≤◌, ◌<◌, Bool, true, false, List, [], ◌∷◌, ◌++◌, take, length, Option, Some, None, refl, sym, ap, subst, ◌∙◌, arith, length-append, if◌then◌else◌, get_or}
 use Rattle.std.specs.Prelude.{All, fold, sum_by, slice_get}
 use Rattle.std.specs.List.{flat_map, list_any}
 use Rattle.std.specs.Str.{bytes_eq}
@@ -8,7 +8,7 @@ use Rattle.std.proofs.lemmas.List.{take_all, length-take}
 use Rattle.std.proofs.lemmas.List.Concat.{flat_map-append}
 use Rattle.std.proofs.lemmas.List.Elements.{All-push}
 use Rattle.std.proofs.lemmas.List.Sums.{fold-append, sum_by-cons}
-use Rattle.std.proofs.lemmas.Option.{slice_get_within}
+use Rattle.std.proofs.lemmas.Option.{slice_get_within, slice_get-get_or}
 use Rattle.nn_base.specs.Paths.{Bytes, Names}
 use Rattle.nn_strtab.specs.Numbers.{with_use, first_uses}
 use Rattle.nn_tree.specs.declared.node.Node.{Node}
@@ -16,7 +16,7 @@ use Rattle.nn_tree.specs.declared.spot.Spot.{Spot}
 use Rattle.nn_tree.specs.Namespace.{Nodes}
 use Rattle.nn_tree.specs.Limits.{IsWithinLimits}
 use Rattle.nn_tree.specs.Below.{entries_below, visited, count_before, IsNextBelow, IsBelow}
-use Rattle.nn_tree.proofs.BelowLemmas.{take_one_more, entry_of, none_visited}
+use Rattle.nn_tree.proofs.BelowLemmas.{take_one_more, entry_at, entry_of, none_visited}
 use Rattle.nn_image.specs.Messages.{IsLabel}
 use Rattle.nn_image.specs.Image.{labels, string_table}
 use Rattle.nn_image.proofs.ListsLemmas.{filter_all}
@@ -35,7 +35,7 @@ one_more_name names x = by (list_any (bytes_eq x) names)
     by true = omega arith
     by false = omega (arith, length-append names (x ∷ []))
 
-few_names : (uses names : List Bytes) → length (fold with_use names uses) ≤ length names + length uses
+pub few_names : (uses names : List Bytes) → length (fold with_use names uses) ≤ length names + length uses
 few_names [] names = omega arith
 few_names (x ∷ uses) names = let a = few_names uses (with_use names x) in let b = one_more_name names x in omega (arith, a, b)
 
@@ -57,6 +57,10 @@ few_nodes m limits = let a = count_all (entries m) in let b = limits.nodes in om
 -- below the root are all entries
 pub all_entries : (m : Nodes) (top : Names) → top ≡ [] → entries_below m top ≡ entries m
 all_entries m top is = ap (entries_below m) is ∙ filter_all (entries m)
+
+-- each entry stands at its path
+pub entry_there : (m : Nodes) (k : ℕ) (d : Names × Node) → k < length (entries m) → (let e = get_or (entries m) k d in get m e.0 ≡ Some e.1)
+entry_there m k d lt = (entry_at m [] k (get_or (entries m) k d) (ap (λ es. slice_get es k) (all_entries m [] refl) ∙ slice_get-get_or (entries m) k d lt)).1
 
 -- a part of the entries has few names
 pub few_collected : (m : Nodes) (top : Names) (n : ℕ) (names : List Bytes) → top ≡ [] → IsWithinLimits m → names ≡ first_uses (flat_map labels (take n (entries_below m top))) → length names ≤ 2097152

@@ -16,7 +16,7 @@ none_of_length : {A : Type 0} (es : List A) → length es ≡ 0 → es ≡ []
 none_of_length [] e = refl
 none_of_length (x ∷ es) e = absurd (omega arith)
 
-no_entries : entries (empty {K = Names} {X = Node} {R = path_cmp}) ≡ []
+pub no_entries : entries (empty {K = Names} {X = Node} {R = path_cmp}) ≡ []
 no_entries = none_of_length _ (sym (len-entries (empty {K = Names} {X = Node} {R = path_cmp})) ∙ len-empty path_cmp Node)
 
 pub root_alone : entries empty_namespace.nodes ≡ ([], root_node) ∷ []

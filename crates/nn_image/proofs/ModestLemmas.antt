@@ -1,33 +1,33 @@
--- No section of an image is longer than a u64 counts, by far.
-use Rattle.std.proofs.Common.{◌≡◌, ℕ, zero, suc, ◌+◌, ◌*◌, ◌≤◌, ◌<◌, ◌^◌, Bool, true, false, cond, List, [], ◌∷◌, ◌++◌, map, length, Option, Some, None, refl, ap, ◌∙◌, arith, length-append, is_some, get_or}
-use Rattle.std.specs.Prelude.{All, slice_get, filter}
+-- How long the messages of an image are, and its sections.
+use Rattle.std.proofs.Common.{◌≡◌, ℕ, zero, suc, ◌+◌, ◌*◌, ◌≤◌, ◌<◌, ◌^◌, Bool, true, false, List, [], ◌∷◌, ◌++◌, map, length, Option, Some, None, refl, ap, inl, inr, arith, length-append, is_some, get_or}
+use Rattle.std.specs.Prelude.{All}
 use Rattle.std.specs.List.{flat_map}
-use Rattle.std.specs.FinMap.{get, entries}
-use Rattle.std.proofs.lemmas.List.{length-map}
+use Rattle.std.specs.FinMap.{entries}
 use Rattle.std.proofs.lemmas.List.Concat.{length-flat_map}
 use Rattle.std.proofs.lemmas.List.Sums.{sum_by-le}
-use Rattle.std.proofs.lemmas.Option.{slice_get-get_or}
-use Rattle.nn_base.specs.Paths.{Bytes, Names, joined}
+use Rattle.nn_base.specs.Paths.{Bytes, Names, is_name}
+use Rattle.nn_base.proofs.PathsLemmas.{name_is_short}
 use Rattle.nn_wire.specs.Varint.{varint}
 use Rattle.nn_wire.specs.Field.{varint_field, bytes_field}
 use Rattle.nn_tree.specs.declared.node.Block.{Block}
 use Rattle.nn_tree.specs.declared.node.Kind.{Kind}
 use Rattle.nn_tree.specs.declared.node.Kind.TheVariants.{File, Dir}
 use Rattle.nn_tree.specs.declared.node.Node.{Node}
-use Rattle.nn_tree.specs.Namespace.{Namespace, Nodes}
-use Rattle.nn_tree.specs.Limits.{IsKind}
+use Rattle.nn_tree.specs.Nodes.{blocks_of}
+use Rattle.nn_tree.specs.Namespace.{Namespace, Nodes, block_count}
 use Rattle.nn_tree.specs.Spots.{last_name}
-use Rattle.nn_tree.proofs.BelowLemmas.{entry_at}
 use Rattle.nn_image.specs.declared.message.Attributes.{Attributes}
 use Rattle.nn_image.specs.Messages.{IsLabel, Text, Inode}
 use Rattle.nn_image.specs.Spelling.{optional, ns_info, strings, string, inodes, block, access, blocks_field, open_field, file, directory, kind_number, kind_field, inode, dir_entry, delimited}
-use Rattle.nn_image.specs.Frame.{sections_of}
-use Rattle.nn_image.specs.Image.{numbered_from, inode_of, is_child, children, child_ids, entry_of, dir_entries_of, content_with}
+use Rattle.nn_image.specs.Frame.{Sections, sections_of}
+use Rattle.nn_image.specs.Image.{numbered_from, inode_of, child_ids, entry_of, dir_entries_of, content_with}
 use Rattle.nn_image.specs.Imaged.{IsImaged}
 use Rattle.nn_image.specs.Saving.{Target, whole, entry_text, AreModest}
 use Rattle.nn_image.proofs.ListsLemmas.{flat_map-map, flat_map-flat_map}
 use Rattle.nn_image.proofs.SummaryLemmas.{varint_few, varint_field_few, bytes_field_few, delimited_few}
-use Rattle.nn_image.proofs.CollectLemmas.{few_nodes, all_entries}
+use Rattle.nn_image.proofs.CollectLemmas.{few_nodes, entry_there}
+use Rattle.nn_image.proofs.ContentLemmas.{last_is_name}
+use Rattle.nn_image.proofs.SumsLemmas.{joined_weighed, few_children}
 
 -- so many texts of so many bytes
 joined_few : {A : Type 0} (f : A → Bytes) (most : ℕ) (xs : List A) → All (λ x. length (f x) ≤ most) xs → length (flat_map f xs) ≤ length xs * most
@@ -35,7 +35,7 @@ joined_few f most xs each = let a = sum_by-le (λ x. length (f x)) most xs each 
 
 -- ---- strings
 
-text_few : (entry : Text) → IsLabel entry.text → length (delimited (string entry)) ≤ 82
+text_few : (entry : Text) → IsLabel entry.text → length (delimited (string entry)) ≤ 64
 unfolding string
 text_few entry is =
     let a = varint_field_few 1 entry.number in
@@ -44,20 +44,20 @@ text_few entry is =
     let d = length-append (varint_field 1 entry.number) (bytes_field 2 entry.text) in
     let e = is.1 in omega (arith, a, b, c, d, e)
 
-texts_few : (n : ℕ) (table : List Bytes) → All IsLabel table → All (λ entry. length (delimited (string entry)) ≤ 82) (numbered_from n table)
+texts_few : (n : ℕ) (table : List Bytes) → All IsLabel table → All (λ entry. length (delimited (string entry)) ≤ 64) (numbered_from n table)
 unfolding numbered_from
 texts_few n [] all k d lt = absurd (omega arith)
 texts_few n (x ∷ table) all zero d lt = text_few (record { number = n; text = x }) (all 0 x (omega arith))
 texts_few n (x ∷ table) all (suc k) d lt = texts_few (suc n) table (λ k d lt. all (suc k) d (omega arith)) k d (omega arith)
 
-length-numbered : (n : ℕ) (table : List Bytes) → length (numbered_from n table) ≡ length table
+pub length-numbered : (n : ℕ) (table : List Bytes) → length (numbered_from n table) ≡ length table
 unfolding numbered_from
 length-numbered n [] = refl
 length-numbered n (x ∷ table) = ap suc (length-numbered (suc n) table)
 
 -- ---- nodes
 
-block_few : (b : Block) → length (bytes_field 6 (block b)) ≤ 80
+block_few : (b : Block) → length (bytes_field 6 (block b)) ≤ 44
 unfolding block
 block_few b =
     let x = varint_field 1 b.id in
@@ -66,37 +66,36 @@ block_few b =
     let c = bytes_field_few 6 (x ++ y ++ z) in
     omega (arith, varint_field_few 1 b.id, varint_field_few 2 b.stamp, varint_field_few 3 b.length, c, length-append (x ++ y) z, length-append x y)
 
-blocks_few : (blocks : List Block) → length (blocks_field blocks) ≤ length blocks * 80
+blocks_few : (blocks : List Block) → length (blocks_field blocks) ≤ length blocks * 44
 unfolding blocks_field
-blocks_few blocks = joined_few (λ b. bytes_field 6 (block b)) 80 blocks (λ k d lt. block_few (get_or blocks k d))
+blocks_few blocks = joined_few (λ b. bytes_field 6 (block b)) 44 blocks (λ k d lt. block_few (get_or blocks k d))
 
-access_few : (first : ℕ) (a : Attributes) → length (access first a) ≤ 60
+access_few : (first : ℕ) (a : Attributes) → first < 14 → length (access first a) ≤ 33
 unfolding access
-access_few first a =
+access_few first a known =
     let x = varint_field first a.owner in
     let y = varint_field (first + 1) a.group in
     let z = varint_field (first + 2) a.mode in
     omega (arith, varint_field_few first a.owner, varint_field_few (first + 1) a.group, varint_field_few (first + 2) a.mode, length-append (x ++ y) z, length-append x y)
 
-open_few : (is_open : Bool) → length (open_field is_open) ≤ 20
+open_few : (is_open : Bool) → length (open_field is_open) ≤ 11
 unfolding open_field
-open_few true = varint_field_few 7 1
+open_few true = varint_field_few 7 1 (omega arith)
 open_few false = omega arith
 
-optional_few : (number : ℕ) (value : Option ℕ) → length (optional number value) ≤ 20
+optional_few : (number : ℕ) (value : Option ℕ) → number < 16 → length (optional number value) ≤ 11
 unfolding optional
-optional_few number None = omega arith
-optional_few number (Some n) = varint_field_few number n
+optional_few number None known = omega arith
+optional_few number (Some n) known = varint_field_few number n known
 
-kind_few : (kind : Kind) (a : Attributes) → IsKind kind → length (kind_field kind a) ≤ 900000
+kind_few : (kind : Kind) (a : Attributes) → length (kind_field kind a) ≤ 77 + 44 * length (blocks_of kind)
 unfolding kind_field file directory
-kind_few (File replication is_open blocks) a is =
+kind_few (File replication is_open blocks) a =
     let v = varint_field 1 replication in
     let w = varint_field 2 a.time in
     let x = access 3 a in
     let y = blocks_field blocks in
     let z = open_field is_open in
-    let few = is.few in
     let all = bytes_field_few 4 (v ++ w ++ x ++ y ++ z) in
     omega (
       arith,
@@ -105,14 +104,13 @@ kind_few (File replication is_open blocks) a is =
       access_few 3 a,
       blocks_few blocks,
       open_few is_open,
-      few,
       all,
       length-append (v ++ w ++ x ++ y) z,
       length-append (v ++ w ++ x) y,
       length-append (v ++ w) x,
       length-append v w,
     )
-kind_few (Dir quota) a is =
+kind_few (Dir quota) a =
     let v = varint_field 1 a.time in
     let w = optional 2 quota.names in
     let x = optional 3 quota.space in
@@ -130,9 +128,9 @@ kind_few (Dir quota) a is =
       length-append v w,
     )
 
-inode_few : (i : Inode) → IsKind i.kind → length i.name ≤ 8000 → length (delimited (inode i)) ≤ 1000000
+inode_few : (i : Inode) → length i.name ≤ 255 → length (delimited (inode i)) ≤ 375 + 44 * length (blocks_of i.kind)
 unfolding inode
-inode_few i is short =
+inode_few i short =
     let v = varint_field 1 (kind_number i.kind) in
     let w = varint_field 2 i.id in
     let x = bytes_field 3 i.name in
@@ -143,7 +141,7 @@ inode_few i is short =
       varint_field_few 1 (kind_number i.kind),
       varint_field_few 2 i.id,
       bytes_field_few 3 i.name,
-      kind_few i.kind i.attributes is,
+      kind_few i.kind i.attributes,
       all,
       short,
       length-append (v ++ w ++ x) y,
@@ -151,55 +149,40 @@ inode_few i is short =
       length-append v w,
     )
 
-last_short : (p : Names) → length (last_name p) ≤ length (joined p)
-last_short [] = omega arith
-last_short (name ∷ []) = let a = length-append name (joined []) in omega (arith, a)
-last_short (name ∷ next ∷ rest) = let a = last_short (next ∷ rest) in let b = length-append name (joined (next ∷ rest)) in omega (arith, a, b)
+last_short : (p : Names) → All (λ name. is_name name ≡ true) p → length (last_name p) ≤ 255
+last_short p all = elim (last_is_name p all) [
+  | inl none ↦ omega (arith, ap length none)
+  | inr is ↦ name_is_short (last_name p) is
+]
+
+blocks_at : Names × Node → ℕ
+blocks_at e = length (blocks_of e.1.kind)
+
+node_few : (ns : Namespace) (table : List Bytes) → IsImaged ns → All (λ (e : Names × Node). length (delimited (inode (inode_of table e))) ≤ 375 + 44 * blocks_at e) (entries ns.nodes)
+unfolding inode_of blocks_at
+node_few ns table is k d lt =
+    let e = get_or (entries ns.nodes) k d in
+    inode_few (inode_of table e) (last_short e.0 (is.paths e.0 (ap is_some (entry_there ns.nodes k d lt))).named)
 
 -- ---- directories
 
-filter_few : {A : Type 0} (p : A → Bool) (xs : List A) → length (filter p xs) ≤ length xs
-filter_few p [] = omega arith
-filter_few p (x ∷ xs) = by (p x) (filter_few p xs)
+entry_few : (m : Nodes) (e : Names × Node) → length (entry_text m e) ≤ 32 + 10 * length (child_ids m e.0)
+unfolding entry_text entry_of dir_entry
+entry_few m e = by (child_ids m e.0)
   where
-    by : (b : Bool) → length (filter p xs) ≤ length xs → length (cond b (x ∷ filter p xs) (filter p xs)) ≤ suc (length xs)
-    by true h = omega (arith, h)
-    by false h = omega (arith, h)
-
-entry_few : (m : Nodes) (e : Names × Node) → length (entries m) ≤ 1048576 → length (entry_text m e) ≤ 11000000
-unfolding entry_text child_ids entry_of dir_entry
-entry_few m e few = by (children m e.0) (filter_few (λ (x : Names × Node). is_child e.0 x.0) (entries m))
-  where
-    id : Names × Node → ℕ
-    id e = e.1.id
-
-    by : (cs : List (Names × Node)) → length cs ≤ length (entries m) → length (flat_map (λ d. delimited (dir_entry d)) (entry_of e.1.id (map (λ (e : Names × Node). e.1.id) cs))) ≤ 11000000
-    by [] h = omega arith
-    by (c ∷ cs) h =
-        let ids = map (λ (e : Names × Node). e.1.id) (c ∷ cs) in
+    by : (ids : List ℕ) → length (flat_map (λ d. delimited (dir_entry d)) (entry_of e.1.id ids)) ≤ 32 + 10 * length ids
+    by [] = omega arith
+    by (id ∷ rest) =
+        let ids = id ∷ rest in
         let v = varint_field 1 e.1.id in
         let w = bytes_field 2 (flat_map varint ids) in
         let some = delimited_few (v ++ w) in
         let each = joined_few varint 10 ids (λ k d lt. varint_few (get_or ids k d)) in
-        let len = length-map (c ∷ cs) (λ (e : Names × Node). e.1.id) in
-        omega (arith, some, each, len, h, few, varint_field_few 1 e.1.id, bytes_field_few 2 (flat_map varint ids), length-append v w, length-append (delimited (v ++ w)) [])
+        omega (arith, some, each, varint_field_few 1 e.1.id, bytes_field_few 2 (flat_map varint ids), length-append v w, length-append (delimited (v ++ w)) [])
 
 -- ---- all four
 
-entry_there : (m : Nodes) (k : ℕ) (d : Names × Node) → k < length (entries m) → (let e = get_or (entries m) k d in get m e.0 ≡ Some e.1)
-entry_there m k d lt = (entry_at m [] k (get_or (entries m) k d) (ap (λ es. slice_get es k) (all_entries m [] refl) ∙ slice_get-get_or (entries m) k d lt)).1
-
-node_few : (ns : Namespace) (table : List Bytes) → IsImaged ns → All (λ (e : Names × Node). length (delimited (inode (inode_of table e))) ≤ 1000000) (entries ns.nodes)
-unfolding inode_of
-node_few ns table is k d lt =
-    let e = get_or (entries ns.nodes) k d in
-    let there = entry_there ns.nodes k d lt in
-    let node = is.limits.each e.0 e.1 there in
-    let path = is.paths e.0 (ap is_some there) in
-    let short = last_short e.0 in
-    inode_few (inode_of table e) node.kind (let size = path.size in omega (arith, short, size))
-
-info_few : (a b c d : ℕ) → length (delimited (varint_field 1 a ++ varint_field 3 b ++ varint_field 5 c ++ varint_field 6 d)) ≤ 90
+info_few : (a b c d : ℕ) → length (delimited (varint_field 1 a ++ varint_field 3 b ++ varint_field 5 c ++ varint_field 6 d)) ≤ 54
 info_few a b c d =
     let v = varint_field 1 a in
     let w = varint_field 3 b in
@@ -207,28 +190,49 @@ info_few a b c d =
     let y = varint_field 6 d in
     omega (arith, delimited_few (v ++ w ++ x ++ y), varint_field_few 1 a, varint_field_few 3 b, varint_field_few 5 c, varint_field_few 6 d, length-append (v ++ w ++ x) y, length-append (v ++ w) x, length-append v w)
 
-head_few : (a b : ℕ) → length (delimited (varint_field 1 a ++ varint_field 2 b)) ≤ 50
+head_few : (a b : ℕ) → length (delimited (varint_field 1 a ++ varint_field 2 b)) ≤ 32
 head_few a b = omega (arith, delimited_few (varint_field 1 a ++ varint_field 2 b), varint_field_few 1 a, varint_field_few 2 b, length-append (varint_field 1 a) (varint_field 2 b))
 
-pub modest : (t : Target) → IsImaged t.ns → All IsLabel t.table → length t.table < 2 ^ 31 → AreModest (whole t)
-unfolding whole sections_of content_with dir_entries_of ns_info strings inodes entry_text
-modest t is labels few =
-    let m = t.ns.nodes in
-    let nodes = few_nodes m is.limits in
+-- sections for so many names of owners and groups, nodes and blocks
+pub record AreFew (s : Sections) (names nodes blocks : ℕ) : Type 0 where
+  pub info : length s.info ≤ 54
+  pub strings : length s.strings ≤ 21 + names * 64
+  pub inodes : length s.inodes ≤ 32 + nodes * 375 + 44 * blocks
+  pub directories : length s.directories ≤ nodes * 42
+
+pub sections_few : (ns : Namespace) (table : List Bytes) (id namespace : ℕ) → IsImaged ns → All IsLabel table
+    → AreFew (sections_of (content_with table ns id namespace)) (length table) (length (entries ns.nodes)) (block_count ns.nodes)
+unfolding sections_of content_with dir_entries_of ns_info strings inodes entry_text blocks_at
+sections_few ns table id namespace is labels =
+    let m = ns.nodes in
     let text : Text → Bytes = λ entry. delimited (string entry) in
     let message : Inode → Bytes = λ i. delimited (inode i) in
-    let table_len = length-numbered 1 t.table in
-    let texts = joined_few text 82 (numbered_from 1 t.table) (texts_few 1 t.table labels) in
-    let head = delimited (varint_field 1 (length t.table)) in
-    let head_len = delimited_few (varint_field 1 (length t.table)) in
-    let inode_texts = joined_few (λ (e : Names × Node). message (inode_of t.table e)) 1000000 (entries m) (node_few t.ns t.table is) in
-    let inode_same = ap length (flat_map-map message (inode_of t.table) (entries m)) in
-    let count = delimited (varint_field 1 t.ns.counters.inode ++ varint_field 2 (length (entries m))) in
-    let entry_texts = joined_few (entry_text m) 11000000 (entries m) (λ k d lt. entry_few m (get_or (entries m) k d) nodes) in
+    let table_len = length-numbered 1 table in
+    let texts = joined_few text 64 (numbered_from 1 table) (texts_few 1 table labels) in
+    let head = delimited (varint_field 1 (length table)) in
+    let head_len = delimited_few (varint_field 1 (length table)) in
+    let inode_texts = joined_weighed (λ (e : Names × Node). message (inode_of table e)) 375 44 blocks_at (entries m) (node_few ns table is) in
+    let inode_same = ap length (flat_map-map message (inode_of table) (entries m)) in
+    let count = delimited (varint_field 1 ns.counters.inode ++ varint_field 2 (length (entries m))) in
+    let entry_texts = joined_weighed (entry_text m) 32 10 (λ (e : Names × Node). length (child_ids m e.0)) (entries m) (λ k d lt. entry_few m (get_or (entries m) k d)) in
     let entry_same = ap length (flat_map-flat_map (λ d. delimited (dir_entry d)) (λ (e : Names × Node). entry_of e.1.id (child_ids m e.0)) (entries m)) in
     record {
-      info = let a = info_few t.task.namespace t.ns.counters.stamp t.ns.counters.block t.task.id in omega (arith, a);
-      strings = omega (arith, texts, table_len, few, head_len, varint_field_few 1 (length t.table), length-append head (flat_map text (numbered_from 1 t.table)));
-      inodes = omega (arith, inode_texts, inode_same, nodes, head_few t.ns.counters.inode (length (entries m)), length-append count (flat_map message (map (inode_of t.table) (entries m))));
-      directories = omega (arith, entry_texts, entry_same, nodes);
+      info = info_few namespace ns.counters.stamp ns.counters.block id;
+      strings = omega (arith, texts, table_len, head_len, varint_field_few 1 (length table), length-append head (flat_map text (numbered_from 1 table)));
+      inodes = omega (arith, inode_texts, inode_same, head_few ns.counters.inode (length (entries m)), length-append count (flat_map message (map (inode_of table) (entries m))));
+      directories = omega (arith, entry_texts, entry_same, few_children m);
+    }
+
+-- a u64 counts each section, by far
+pub modest : (t : Target) → IsImaged t.ns → All IsLabel t.table → length t.table < 2 ^ 31 → AreModest (whole t)
+unfolding whole
+modest t is labels few =
+    let s = sections_few t.ns t.table t.task.id t.task.namespace is labels in
+    let nodes = few_nodes t.ns.nodes is.limits in
+    let blocks = is.limits.blocks in
+    record {
+      info = omega (arith, s.info);
+      strings = omega (arith, s.strings, few);
+      inodes = omega (arith, s.inodes, nodes, blocks);
+      directories = omega (arith, s.directories, nodes);
     }

@@ -1,6 +1,7 @@
--- How long a summary is.
-use Rattle.std.proofs.Common.{ℕ, ◌+◌, ◌*◌, ◌/◌, ◌%◌, ◌≤◌, ◌<◌, ◌^◌, zero, suc, [], ◌∷◌, ◌++◌, length, arith, length-append, Bool, true, false, nat_lt, if◌then◌else◌}
+-- How long a varint is, a field, and a summary.
+use Rattle.std.proofs.Common.{◌≡◌, ℕ, ◌+◌, ◌*◌, ◌/◌, ◌%◌, ◌≤◌, ◌<◌, ◌^◌, zero, suc, [], ◌∷◌, ◌++◌, length, ap, lit<, arith, length-append, Bool, true, false, nat_lt, if◌then◌else◌}
 use Rattle.std.specs.Prelude.{codes}
+use Rattle.std.proofs.lemmas.Bool.{lt-ltb}
 use Rattle.nn_base.specs.Paths.{Bytes}
 use Rattle.nn_wire.specs.Varint.{varint, spelled_within}
 use Rattle.nn_wire.specs.Field.{varint_field, bytes_field}
@@ -22,15 +23,24 @@ pub varint_few : (n : ℕ) → length (varint n) ≤ 10
 unfolding varint
 varint_few n = spelled_few 10 n
 
-pub varint_field_few : (number value : ℕ) → length (varint_field number value) ≤ 20
-varint_field_few number value =
-    let a = varint_few (8 * number) in
+-- and one byte below 128, as each key of a message has
+spelled_once : (most n : ℕ) → n < 128 → length (spelled_within (suc most) n) ≡ 1
+unfolding spelled_within
+spelled_once most n small = ap (λ b. length (if b then n ∷ [] else (n % 128 + 128) ∷ spelled_within most (n / 128))) (lt-ltb n 128 small)
+
+varint_once : (n : ℕ) → n < 128 → length (varint n) ≡ 1
+unfolding varint
+varint_once n small = spelled_once 9 n small
+
+pub varint_field_few : (number value : ℕ) → number < 16 → length (varint_field number value) ≤ 11
+varint_field_few number value known =
+    let a = varint_once (8 * number) (omega arith) in
     let b = varint_few value in
     omega (arith, a, b, length-append (varint (8 * number)) (varint value))
 
-pub bytes_field_few : (number : ℕ) (content : Bytes) → length (bytes_field number content) ≤ 20 + length content
-bytes_field_few number content =
-    let a = varint_few (8 * number + 2) in
+pub bytes_field_few : (number : ℕ) (content : Bytes) → number < 16 → length (bytes_field number content) ≤ 11 + length content
+bytes_field_few number content known =
+    let a = varint_once (8 * number + 2) (omega arith) in
     let b = varint_few (length content) in
     omega (arith, a, b, length-append (varint (8 * number + 2)) (varint (length content) ++ content), length-append (varint (length content)) content)
 
@@ -40,19 +50,19 @@ delimited_few message =
     let a = varint_few (length message) in
     omega (arith, a, length-append (varint (length message)) message)
 
-section_few : (s : Section) → length (bytes_field 4 (section_message s)) ≤ 80 + length s.name
+section_few : (s : Section) → length (bytes_field 4 (section_message s)) ≤ 44 + length s.name
 unfolding section_message
 section_few s =
     let name = bytes_field 1 s.name in
     let len = varint_field 2 s.length in
     let offset = varint_field 3 s.offset in
-    let a = bytes_field_few 1 s.name in
-    let b = varint_field_few 2 s.length in
-    let c = varint_field_few 3 s.offset in
-    let d = bytes_field_few 4 (name ++ len ++ offset) in
+    let a = bytes_field_few 1 s.name (lit< tt) in
+    let b = varint_field_few 2 s.length (lit< tt) in
+    let c = varint_field_few 3 s.offset (lit< tt) in
+    let d = bytes_field_few 4 (name ++ len ++ offset) (lit< tt) in
     omega (arith, a, b, c, d, length-append (name ++ len) offset, length-append name len)
 
-sections_few : (l : Lengths) → length (sections_field (places 8 (named l))) ≤ 400
+sections_few : (l : Lengths) → length (sections_field (places 8 (named l))) ≤ 210
 unfolding sections_field places
 sections_few l =
     let p : Section = record { name = codes "NS_INFO"; length = l.info; offset = 8 } in
@@ -76,15 +86,18 @@ sections_few l =
       length-append (spelled s) [],
     )
 
--- a summary is far below the 2^32 bytes that its last four bytes could tell
-pub summary_is_small : (layout : ℕ) (l : Lengths) → length (delimited (summary_message (summary_with layout l))) < 2 ^ 32
+pub summary_few : (layout : ℕ) (l : Lengths) → length (delimited (summary_message (summary_with layout l))) ≤ 242
 unfolding summary_message codec_field summary_with
-summary_is_small layout l =
+summary_few layout l =
     let version = varint_field 1 1 in
     let number = varint_field 2 layout in
     let sections = sections_field (places 8 (named l)) in
-    let a = varint_field_few 1 1 in
-    let b = varint_field_few 2 layout in
+    let a = varint_field_few 1 1 (lit< tt) in
+    let b = varint_field_few 2 layout (lit< tt) in
     let c = sections_few l in
     let d = delimited_few (version ++ number ++ [] ++ sections) in
     omega (arith, a, b, c, d, length-append (version ++ number ++ []) sections, length-append (version ++ number) [], length-append version number)
+
+-- far below the 2^32 bytes that the last four bytes could tell
+pub summary_is_small : (layout : ℕ) (l : Lengths) → length (delimited (summary_message (summary_with layout l))) < 2 ^ 32
+summary_is_small layout l = let a = summary_few layout l in omega (arith, a)

@@ -8,7 +8,7 @@ use Rattle.nn_tree.specs.declared.node.Node.{Node}
 use Rattle.nn_tree.specs.Nodes.{blocks_of, quota_of}
 use Rattle.nn_tree.specs.Namespace.{Namespace, Nodes, IsNamespace}
 use Rattle.nn_tree.specs.Limits.{IsWithinLimits, IsCounters}
-use Rattle.nn_image.specs.Messages.{IsLong, IsLabel, IsNamespaceId}
+use Rattle.nn_image.specs.Messages.{IsLong, IsLabel, IsNamespaceId, IsVarintNumber}
 use Rattle.nn_image.specs.Image.{image_of}
 
 -- the blocks of all files
@@ -41,4 +41,5 @@ pub record IsImage (bytes : Bytes) (ns : Namespace) (id namespace layout : ℕ) 
   pub labelled : AreLabelled ns.nodes
   pub long : IsLong id
   pub named : IsNamespaceId namespace
+  pub laid : IsVarintNumber layout
   pub text : bytes ≡ image_of ns id namespace layout

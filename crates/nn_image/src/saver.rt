@@ -2,7 +2,8 @@
 ghost use Rattle.std.specs.Prelude.{◌≡◌, ◌≢◌, ◌<◌, ◌≤◌, ◌^◌, ◌++◌, [], true, false, length, drop, min, nat_lt, All, unsigned_abs, IfOk, OnOk, vec_len};
 ghost use Rattle.nn_tree.specs.Spots.{IsSound};
 ghost use Rattle.nn_image.specs.declared.task.Stage.TheVariants.{Done};
-ghost use Rattle.nn_image.specs.Imaged.{IsImaged};
+ghost use Rattle.nn_image.specs.Imaged.{IsImaged, AreLabelled};
+ghost use Rattle.nn_image.specs.Faults.{IsSmall};
 ghost use Rattle.nn_image.specs.Image.{image_of, string_table};
 ghost use Rattle.nn_image.specs.Messages.{IsLabel};
 ghost use Rattle.std.specs.FinMap as map;
@@ -32,7 +33,7 @@ pub struct Saver {
 }
 
 /// The spot of the root.
-fn root_of<T: Tree>(alloc: Global, tree: &T) -> Spot
+pub(crate) fn root_of<T: Tree>(alloc: Global, tree: &T) -> Spot
     ensures there { T.has tree.now result ≡ true }
     ensures top { T.place tree.now result ≡ [] }
     ensures sound { IsSound (T.meaning tree.now) (T.has tree.now) (T.place tree.now) }
@@ -68,14 +69,14 @@ fn collect<T: Tree>(alloc: Global, tree: &T, root: Spot) -> Result<(Names, u64),
 }
 
 /// A layout without its sign.
-fn magnitude(layout: i32) -> u32
+pub(crate) fn magnitude(layout: i32) -> u32
     ensures { result ≡ unsigned_abs layout }
 {
     layout.unsigned_abs()
 }
 
 /// Begins to write the image of a namespace, as it is at a transaction. The layout is negative, as all of HDFS's are,
-/// and the namespaceID is at least 1; an image has a layout without its sign.
+/// and the namespaceID is at least 1; an image has a layout without its sign. It has at most 2^30 bytes, as many as are read.
 pub fn save<T: Tree>(
     alloc: Global,
     tree: &T,
@@ -87,6 +88,8 @@ pub fn save<T: Tree>(
     ensures saves { IfOk result (λ saver. Saves saver (T.meaning tree.now) (T.has tree.now) (T.place tree.now)) }
     ensures whole { IfOk result (λ saver. left saver (T.meaning tree.now) (T.has tree.now) (T.place tree.now) ≡
         image_of (T.meaning tree.now) id namespace (unsigned_abs layout)) }
+    ensures labelled { OnOk result (AreLabelled (T.meaning tree.now).nodes) }
+    ensures small { IfOk result (λ saver. IsSmall (left saver (T.meaning tree.now) (T.has tree.now) (T.place tree.now))) }
 {
     let root = root_of(alloc, tree);
     let (names, nodes) = collect(alloc, tree, root)?;

@@ -17,7 +17,7 @@ pub(crate) struct Lengths {
 }
 
 /// Where the first section begins, behind the mark.
-const FIRST: u64 = 8;
+pub(crate) const FIRST: u64 = 8;
 
 #[tactic(auto, using(crate::proofs::PutLemmas::closed), unfolding(crate::specs::Frame::section_message))]
 fn put_place(name: &[u8], len: u64, offset: u64, out: &mut Vec<u8>) -> Result<(), NoMemory>

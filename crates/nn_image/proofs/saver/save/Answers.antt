@@ -1,13 +1,16 @@
-use Rattle.std.proofs.Common.{◌++◌, List, drop, refl, ap, ◌∙◌, arith}
+use Rattle.std.proofs.Common.{◌++◌, List, drop, refl, sym, ap, subst, ◌∙◌, arith}
 use Rattle.std.specs.Prelude.{unsigned_abs}
 use Rattle.std.specs.Int.{w32}
 use Rattle.std.proofs.lemmas.Int.{to_z-of_z}
 use Rattle.nn_base.specs.Paths.{Bytes}
 use Rattle.nn_image.specs.declared.task.Task.{Task}
 use Rattle.nn_image.specs.Frame.{magic, body, sections_of, summary_message, summary_of, framed, end}
+use Rattle.nn_image.specs.Faults.{IsSmall}
 use Rattle.nn_image.specs.Image.{content_with, content_of, image_of}
 use Rattle.nn_image.specs.Saving.{Target, left, rest, whole, end_of}
 use Rattle.nn_image.proofs.ModestLemmas.{modest}
+use Rattle.nn_image.proofs.SmallLemmas.{image_few}
+use Rattle.nn_image.proofs.UsesLemmas.{labelled}
 use Rattle.nn_image.proofs.saver.save.Goals as goal
 
 pub returns-clause-saves : goal.returns-clause-saves
@@ -47,3 +50,12 @@ returns-clause-whole g c =
     let layout = c.magnitude.ensures ∙ ap unsigned_abs (to_z-of_z w32 c.args.layout c.ranges.layout) in
     let sections = λ (table : List Bytes). sections_of (content_with table ns c.args.id c.args.namespace) in
     (λ j. drop 0 (c.new.ensures.items j) ++ (magic ++ body (sections (collected.names j)) ++ end (summary_message (summary_of (layout j) (sections (collected.names j))))))
+
+pub returns-clause-labelled : goal.returns-clause-labelled
+returns-clause-labelled g c = labelled (g.T.Tree.meaning c.args.tree.now).nodes c.in_ok-names.names c.in_ok-names.ensures.names c.in_ok-names.ensures.short
+
+pub returns-clause-small : goal.returns-clause-small
+returns-clause-small g c =
+    let ns = g.T.Tree.meaning c.args.tree.now in
+    let labelled = labelled ns.nodes c.in_ok-names.names c.in_ok-names.ensures.names c.in_ok-names.ensures.short in
+    subst IsSmall (sym (returns-clause-whole g c)) (image_few ns c.args.id c.args.namespace (unsigned_abs c.args.layout) c.requires labelled)

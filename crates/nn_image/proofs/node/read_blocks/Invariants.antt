@@ -1,0 +1,14 @@
+use Rattle.std.proofs.Common.{◌≡◌, List, ◌++◌, length}
+use Rattle.std.specs.Prelude.{All}
+use Rattle.nn_tree.specs.declared.node.Block.{Block}
+use Rattle.nn_tree.specs.Limits.{IsBlock}
+use Rattle.nn_image.specs.Spelling.{blocks_field}
+use Rattle.nn_image.proofs.node.read_blocks.Given as goal
+
+-- the blocks that were read, and those to come
+abbrev pub invariant-fields : goal.invariant-fields
+invariant-fields l = (blocks : List Block) → All IsBlock blocks → l.fn.bytes ≡ blocks_field blocks →
+    (ahead : List Block) × All IsBlock ahead × (l.rest ≡ blocks_field ahead) × (blocks ≡ l.list.items ++ ahead)
+
+abbrev pub decreases-fields : goal.decreases-fields
+decreases-fields l = length l.rest

@@ -1,0 +1,18 @@
+use Rattle.std.proofs.Common.{◌≡◌, List, length}
+use Rattle.std.specs.Prelude.{All, bytes_eq}
+use Rattle.std.specs.List.{IsDistinct}
+use Rattle.nn_image.specs.Messages.{Text, IsText, IsLabel}
+use Rattle.nn_image.specs.Building.{texts_text}
+use Rattle.nn_image.proofs.StringTableLemmas.{ToCome}
+use Rattle.nn_image.proofs.string_table.read_table.Given as goal
+
+-- the names so far, and the strings to come
+abbrev pub invariant-texts : goal.invariant-texts
+invariant-texts l = record {
+  labels : All IsLabel l.names;
+  once : IsDistinct bytes_eq l.names;
+  to_come : (entries : List Text) → All IsText entries → l.fn.texts ≡ texts_text entries → (ahead : List Text) × All IsText ahead × (l.rest ≡ texts_text ahead) × ToCome l.names entries ahead;
+}
+
+abbrev pub decreases-texts : goal.decreases-texts
+decreases-texts l = length l.rest

@@ -1,0 +1,63 @@
+// A node of an image, with its blocks in memory of its own.
+ghost use Rattle.std.specs.Prelude.{◌≡◌, ◌≢◌, List, All, IfOk, Err};
+ghost use Rattle.nn_tree.specs.declared.node.Block.{Block};
+ghost use Rattle.nn_tree.specs.Limits.{IsBlock};
+ghost use Rattle.nn_image.specs.declared.unmade.Unmade.TheVariants.{Tree};
+ghost use Rattle.nn_image.specs.Messages.{Inode, IsInode};
+ghost use Rattle.nn_image.specs.Spelling.{blocks_field};
+ghost use Rattle.nn_image.specs.Views.{IsInodeView};
+ghost use Rattle.nn_image.specs.Assembly.{node_of};
+
+use crate::owners::Owners;
+use crate::reading::take_block;
+use crate::unmade::Unmade;
+use crate::view::{InodeView, KindView};
+use nn_tree::{Blocks, Kind, Node};
+use std::alloc::Global;
+
+fn read_blocks(alloc: Global, bytes: &[u8]) -> Result<Blocks, Unmade>
+    ensures ok { (blocks : List Block) → All IsBlock blocks → bytes.now ≡ blocks_field blocks → IfOk result (λ read. read ≡ blocks) }
+    ensures tree { (blocks : List Block) → All IsBlock blocks → bytes.now ≡ blocks_field blocks → result ≢ Err Tree }
+{
+    let mut list = Vec::new(alloc);
+    let mut rest = bytes;
+    'fields: while !rest.is_empty() {
+        match take_block(&mut rest) {
+            Some(block) => list.push(block)?,
+            None => return Err(Unmade::Tree),
+        }
+    }
+    Ok(Blocks { list })
+}
+
+/// The node that a message shows.
+pub(crate) fn node_from(
+    alloc: Global,
+    view: &InodeView<'_>,
+    owners: &Owners,
+) -> Result<Node, Unmade>
+    ensures ok { (inode : Inode) → IsInode inode → IsInodeView view.now inode → IfOk result (λ node.
+        node ≡ node_of (record { owner = owners.now.owner; group = owners.now.group; used = owners.now.used }) inode) }
+    ensures tree { (inode : Inode) → IsInode inode → IsInodeView view.now inode → result ≢ Err Tree }
+{
+    let kind = match view.kind {
+        KindView::File {
+            replication,
+            is_open,
+            blocks,
+        } => Kind::File {
+            replication,
+            is_open,
+            blocks: read_blocks(alloc, blocks)?,
+        },
+        KindView::Dir { quota } => Kind::Dir { quota },
+    };
+    Ok(Node {
+        id: view.id,
+        owner: owners.owner,
+        group: owners.group,
+        mode: view.attributes.mode,
+        time: view.attributes.time,
+        kind,
+    })
+}
