@@ -1,0 +1,7 @@
+pub mod Folder
+pub mod Images
+pub mod Words
+pub mod Records
+pub mod Chain
+pub mod Fair
+pub mod Reading
