@@ -1,0 +1,4 @@
+pub mod VersionLemmas
+pub mod AloneLemmas
+pub mod OneRefusalLemmas
+pub mod LawLemmas

@@ -1,13 +1,16 @@
-//! Refusals: why a command changes nothing, how that is said, and which directory refuses first.
-//! It knows nothing of what a command would have done.
+//! Opening: what name directories open to, and why a command changes nothing: which refusal comes first, and how it is
+//! said. It knows nothing of what a command would have done.
 #![tactic(auto)]
 
 mod fault;
+mod intent;
+pub mod laws;
 mod refusal;
 mod refused;
 #[cfg(test)]
 mod tests;
 
 pub use fault::OpenFault;
-pub use refusal::Refusal;
+pub use intent::Intent;
+pub use refusal::{PreviousWhy, Refusal};
 pub use refused::{first_of, unformattable, unusable};

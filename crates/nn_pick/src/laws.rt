@@ -1,0 +1,18 @@
+// What follows from the definitions alone, for the proofs of the crates above: no call does anything here.
+ghost use Rattle.nn_pick.specs.Laws.{OneRefuses, NoneOpensRefused, AnImageOpensAlone};
+
+/// At most one refusal is the answer, but for the reason why an image isn't intact.
+pub fn one_refuses()
+    ensures { OneRefuses }
+{}
+
+/// Directories that open aren't refused.
+#[tactic(auto, using(crate::proofs::LawLemmas::none_opens_refused))]
+pub fn none_opens_refused()
+    ensures { NoneOpensRefused }
+{}
+
+/// A directory whose `current` has a whole image and no record opens alone to the namespace of that image.
+pub fn an_image_opens_alone()
+    ensures { AnImageOpensAlone }
+{}
