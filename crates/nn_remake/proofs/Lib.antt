@@ -1,0 +1,7 @@
+pub mod BesideLemmas
+pub mod StagingLemmas
+pub mod PublishingLemmas
+pub mod MakingLemmas
+pub mod LeftLemmas
+pub mod ChainLemmas
+pub mod RankLemmas

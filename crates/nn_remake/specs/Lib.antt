@@ -1,0 +1,5 @@
+pub mod Counts
+pub mod Publishing
+pub mod Rank
+pub mod Published
+pub mod Made
