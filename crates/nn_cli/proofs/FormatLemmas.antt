@@ -1,18 +1,18 @@
 -- From the answer of `format` to what the command has said and done.
-use Rattle.std.proofs.Common.{◌≡◌, ◌⊎◌, inl, inr, ⊎_elim, ℕ, ◌<◌, List, ◌++◌, take, drop, None, Err, sym, ◌∙◌, subst}
+use Rattle.std.proofs.Common.{◌≡◌, ◌⊎◌, inl, inr, ⊎_elim, ℕ, ◌<◌, List, ◌++◌, take, drop, None, Result, Err, sym, ◌∙◌, subst}
 use Rattle.std.proofs.lemmas.List.{take-append-drop}
 use Rattle.nn_host.specs.Disk.{Disk, Reads, Leaves}
-use Rattle.nn_host.specs.Moments.{Moment, State, IsLawful, Left, disk_at, moment}
+use Rattle.nn_host.specs.Moments.{Dir, Moment, State, IsLawful, Left, disk_at, moment}
 use Rattle.nn_host.specs.Calls.{Spoke}
 use Rattle.nn_host.specs.Runs.{OutWhole, Untouched, Throughout, EachDir}
 use Rattle.nn_host.proofs.RunsLemmas.{throughout_refl, throughout_trans, throughout_weaker, spoke_front}
 use Rattle.nn_host.proofs.LeftLemmas.{each_since}
 use Rattle.nn_marks.specs.declared.version.Version.{Version}
-use Rattle.nn_marks.specs.VersionText.{version_text_of}
-use Rattle.nn_open.specs.Formatted.{IsFresh}
+use Rattle.nn_state.specs.Typed.{FitsFresh}
+use Rattle.nn_open.specs.Formatted.{IsFormatted, ReadsFormatted, OpensEmpty}
 use Rattle.nn_open.specs.Runs.{Unspoken}
 use Rattle.nn_open.specs.Answers.{AllFresh, AllFormatted, EachFreshOrNew, EachAsBefore, settled_disk, first_unformattable}
-use Rattle.nn_open.proofs.LeftLemmas.{fresh_left, left_fresh, fresh_or_new_left}
+use Rattle.nn_open.proofs.LeftLemmas.{fresh_left, left_fresh, formatted_left, formatted_opens}
 use Rattle.nn_cli.specs.Words.{Word}
 use Rattle.nn_cli.specs.Lines.{formatted_line}
 use Rattle.nn_cli.specs.Format.{IsNewVersion, LeftFreshOrAsked, FreshOrAsked, EachFreshOrAsked}
@@ -21,9 +21,9 @@ pub out_whole : {told : Type 0} {a b : State} → Unspoken told a b → OutWhole
 out_whole u = throughout_weaker u.each (λ tells m same. same.out_faults)
 
 -- an output that failed over the number of directories
-pub count_front : {T E told : Type 0} {text : List ℕ} {a b c : State} {e : E} → told → Unspoken told a b → AllFormatted text a b → Spoke {T = T} {E = E} told (formatted_line b.count) b c (Err e)
+pub count_front : {T E told : Type 0} {version : Version} {a b c : State} {e : E} → told → Unspoken told a b → AllFormatted version a b → Spoke {T = T} {E = E} told (formatted_line b.count) b c (Err e)
     → (lines : List ℕ) × (c.now.said ≡ a.now.said ++ lines) × ((first_unformattable a.reads a.count ≡ None) × ((later : List ℕ) × (formatted_line a.count ≡ lines ++ later)))
-count_front {T} {E} {told} {text} {a} {b} {c} {e} tells u formatted spoke =
+count_front {T} {E} {told} {version} {a} {b} {c} {e} tells u formatted spoke =
     let front = spoke_front spoke tells in
     let line = formatted_line a.count in (
       take front.0 line,
@@ -31,8 +31,17 @@ count_front {T} {E} {told} {text} {a} {b} {c} {e} tells u formatted spoke =
       (formatted.unrefused, (drop front.0 line, sym (take-append-drop front.0 line))),
     )
 
+-- what is said after it changes no directory
+pub formatted_said : {T E told : Type 0} {bytes : List ℕ} {a b c : State} {result : Result T E} (version : Version) → AllFormatted version a b → Spoke told bytes b c result → AllFormatted version a c
+formatted_said {a = a} {b = b} {c = c} version formatted spoke = record {
+  unrefused = formatted.unrefused;
+  reads = λ i below. subst (λ (r : ℕ → Reads). ReadsFormatted version (r i)) (sym spoke.reads) (formatted.reads i below);
+  disks = λ i below. subst (λ (dirs : ℕ → Dir). IsFormatted version (dirs i).disk) (sym spoke.dirs) (formatted.disks i below);
+  opens = λ i below. subst (λ (r : ℕ → Reads). OpensEmpty (r i)) (sym spoke.reads) (formatted.opens i below);
+}
+
 -- the VERSION is the one that is asked for
-pub each_as_asked : {told : Type 0} {cluster : Word} {namespace : ℕ} {a b : State} (version : Version) → IsNewVersion cluster namespace version → EachFreshOrNew told (version_text_of version) a b → EachFreshOrAsked told cluster namespace a b
+pub each_as_asked : {told : Type 0} {cluster : Word} {namespace : ℕ} {a b : State} (version : Version) → IsNewVersion cluster namespace version → EachFreshOrNew told version a b → EachFreshOrAsked told cluster namespace a b
 each_as_asked version is each = throughout_weaker each (λ tells m dirs. record { at = λ i below. ⊎_elim (λ fresh. inl fresh) (λ new. inr (version, is, new)) (dirs.at i below) })
 
 -- what changes no directory keeps what the disk of each has
@@ -55,8 +64,8 @@ each_as_before {told} {a} cluster namespace lawful fresh = throughout_refl (λ t
 -- what a stop leaves of a disk that is not formatted or has the new namespace
 fresh_or_asked_left : (cluster : Word) (namespace : ℕ) (d : Disk) (c : Reads) → Leaves d c → FreshOrAsked cluster namespace d → LeftFreshOrAsked cluster namespace c
 fresh_or_asked_left cluster namespace d c leaves is = ⊎_elim
-    (λ (fresh : IsFresh d). inl (fresh_left d c leaves fresh))
-    (λ new. ⊎_elim (λ (fresh : IsFresh c). inl fresh) (λ left. inr (new.0, new.1, left)) (fresh_or_new_left d c leaves new.0 (inr new.2)))
+    (λ (fresh : FitsFresh d). inl (fresh_left d c leaves fresh))
+    (λ new. let left = formatted_left d c leaves new.0 new.2 in inr (new.0, new.1, left, formatted_opens new.0 new.1.layout c left))
     is
 
 -- what a stop leaves since the beginning of a run

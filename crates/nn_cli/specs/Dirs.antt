@@ -4,7 +4,6 @@ use Rattle.nn_host.specs.Disk.{Reads}
 use Rattle.nn_host.specs.Moments.{Moment, State, Left, moment}
 use Rattle.nn_host.specs.Runs.{Untouched}
 use Rattle.nn_marks.specs.declared.version.Version.{Version}
-use Rattle.nn_marks.specs.VersionText.{version_text_of}
 use Rattle.nn_open.specs.Answers.{AllFresh, AllFormatted, EachAsBefore, first_unformattable}
 use Rattle.nn_server.specs.declared.status.Status.{Status}
 use Rattle.nn_server.specs.declared.status.Status.TheVariants.{Ok, Usage, Refused, HostFault, SourceFault, ScriptTooLong, Memory, OutFault}
@@ -36,7 +35,7 @@ abbrev pub StopsFreshOrAsked : List Word → State → State → Type 0
 StopsFreshOrAsked words old new = (cluster : Word) (namespace : ℕ) (dirs : List Word) → AskFormat words cluster namespace dirs → AllFresh old
     → (contents : ℕ → Reads) (m : Moment) → Left new (moment old) contents m → (i : ℕ) → i < old.count → LeftFreshOrAsked cluster namespace (contents i)
 
--- where they ask to format, each directory holds the new namespace and nothing else
+-- where they ask to format, each directory holds the new namespace and nothing else, and alone opens to it
 abbrev pub FormatsAsAsked : List Word → State → State → Type 0
 FormatsAsAsked words old new = (cluster : Word) (namespace : ℕ) (dirs : List Word) → AskFormat words cluster namespace dirs
-    → (version : Version) × IsNewVersion cluster namespace version × AllFormatted (version_text_of version) old new
+    → (version : Version) × IsNewVersion cluster namespace version × AllFormatted version old new

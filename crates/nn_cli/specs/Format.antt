@@ -5,8 +5,8 @@ use Rattle.nn_host.specs.Disk.{Disk, Reads}
 use Rattle.nn_host.specs.Moments.{State}
 use Rattle.nn_host.specs.Runs.{Throughout, EachDir}
 use Rattle.nn_marks.specs.declared.version.Version.{Version}
-use Rattle.nn_marks.specs.VersionText.{version_text_of}
-use Rattle.nn_open.specs.Formatted.{IsFresh, IsNew, LeftNew}
+use Rattle.nn_state.specs.Typed.{FitsFresh}
+use Rattle.nn_open.specs.Formatted.{IsFormatted, ReadsFormatted, OpensEmpty}
 use Rattle.nn_cli.specs.Words.{Word}
 
 -- its VERSION: cTime 0, a block pool named after the namespace, and the layout of this program
@@ -17,13 +17,13 @@ pub record IsNewVersion (id : Word) (number : ℕ) (version : Version) : Type 0 
   pub blockpool : version.blockpool ≡ codes "BP-" ++ decimal number
   pub layout : version.layout ≡ neg_ℤ (pos 1001)
 
--- what a stop leaves of a directory: it is not formatted, or has the new namespace
+-- what a stop leaves of a directory: it is not formatted, or has the new namespace and alone opens to it
 abbrev pub LeftFreshOrAsked : Word → ℕ → Reads → Type 0
-LeftFreshOrAsked cluster namespace dir = IsFresh dir ⊎ ((version : Version) × IsNewVersion cluster namespace version × LeftNew version dir)
+LeftFreshOrAsked cluster namespace dir = FitsFresh dir ⊎ ((version : Version) × IsNewVersion cluster namespace version × ReadsFormatted version dir × OpensEmpty dir)
 
--- the same of its disk
+-- its disk is so
 abbrev pub FreshOrAsked : Word → ℕ → Disk → Type 0
-FreshOrAsked cluster namespace d = IsFresh d ⊎ ((version : Version) × IsNewVersion cluster namespace version × IsNew (version_text_of version) d)
+FreshOrAsked cluster namespace d = FitsFresh d ⊎ ((version : Version) × IsNewVersion cluster namespace version × IsFormatted version d)
 
 -- from old to new each directory has that
 abbrev pub EachFreshOrAsked : Type 0 → Word → ℕ → State → State → Type 0

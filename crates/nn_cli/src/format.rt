@@ -3,7 +3,6 @@ ghost use Rattle.std.specs.Prelude.{◌≡◌, ◌≢◌, ◌≤◌, ◌++◌, �
 ghost use Rattle.nn_base.specs.Words.{is_word};
 ghost use Rattle.nn_host.specs.Calls.{Spoke};
 ghost use Rattle.nn_marks.specs.declared.version.Version.{Version as Stamp};
-ghost use Rattle.nn_marks.specs.VersionText.{version_text_of};
 ghost use Rattle.nn_open.specs.Answers.{AllFresh, AllFormatted, EachFreshOrNew, EachAsBefore, first_unformattable};
 ghost use Rattle.nn_cli.specs.Format.{IsNewVersion, EachFreshOrAsked};
 ghost use Rattle.nn_cli.specs.Lines.{formatted_line as line_of};
@@ -33,7 +32,7 @@ pub fn say_formatted<H: Host>(alloc: Global, host: &mut H, cluster: &Word, names
     ensures refused { H.told → (refusal : _) → result ≡ Status.Refused refusal → (j : ℕ) → (H.state host.new).reads j ≡ (H.state host.old).reads j }
     ensures any_moment { H.told → AllFresh (H.state host.old) → EachFreshOrAsked H.told cluster.now namespace (H.state host.old) (H.state host.new) }
     ensures as_before { first_unformattable (H.state host.old).reads (H.state host.old).count ≢ None → EachAsBefore H.told (H.state host.old) (H.state host.new) }
-    ensures formatted { H.told → result ≡ Status.Ok → (version : Stamp) × IsNewVersion cluster.now namespace version × AllFormatted (version_text_of version) (H.state host.old) (H.state host.new) }
+    ensures formatted { H.told → result ≡ Status.Ok → (version : Stamp) × IsNewVersion cluster.now namespace version × AllFormatted version (H.state host.old) (H.state host.new) }
     ensures quiet { IsQuiet H.told (H.state host.old) (H.state host.new) result }
     ensures cause { IsCausedBy (H.state host.old) (H.state host.new) result }
 {
@@ -50,9 +49,9 @@ fn say_formatted_as<H: Host>(alloc: Global, host: &mut H, version: &Version) -> 
     ensures said { H.told → (lines : _) × ((H.state host.new).now.said ≡ (H.state host.old).now.said ++ lines) × FormatBefore (H.state host.old).reads (H.state host.old).count result lines }
     ensures read { IsOfDirs result }
     ensures refused { H.told → (refusal : _) → result ≡ Status.Refused refusal → (j : ℕ) → (H.state host.new).reads j ≡ (H.state host.old).reads j }
-    ensures any_moment { AllFresh (H.state host.old) → EachFreshOrNew H.told (version_text_of version.now) (H.state host.old) (H.state host.new) }
+    ensures any_moment { AllFresh (H.state host.old) → EachFreshOrNew H.told version.now (H.state host.old) (H.state host.new) }
     ensures as_before { first_unformattable (H.state host.old).reads (H.state host.old).count ≢ None → EachAsBefore H.told (H.state host.old) (H.state host.new) }
-    ensures formatted { H.told → result ≡ Status.Ok → AllFormatted (version_text_of version.now) (H.state host.old) (H.state host.new) }
+    ensures formatted { H.told → result ≡ Status.Ok → AllFormatted version.now (H.state host.old) (H.state host.new) }
     ensures quiet { IsQuiet H.told (H.state host.old) (H.state host.new) result }
     ensures cause { IsCausedBy (H.state host.old) (H.state host.new) result }
 {

@@ -92,7 +92,10 @@ fn end<H: Host>(alloc: Global, host: &mut H, status: Status) -> Status
         Status::SourceFault => say_last(host, b"source fault\n", Status::SourceFault),
         Status::ScriptTooLong => say_last(host, b"script too long\n", Status::ScriptTooLong),
         Status::Memory => say_last(host, b"no memory\n", Status::Memory),
-        Status::Refused(refusal) => say_made(host, refusal.text(alloc), status),
+        Status::Refused(refusal) => {
+            let line = refusal.text(alloc);
+            say_made(host, line, Status::Refused(refusal))
+        }
         Status::HostFault(i) => say_made(host, fault_line(alloc, i), status),
     }
 }

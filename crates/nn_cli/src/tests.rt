@@ -4,7 +4,7 @@ ghost use Rattle.nn_memhost.specs.Mem.{mem_state};
 
 mod scripts;
 
-use crate::{Status, command_of, namenode};
+use crate::{command_of, namenode};
 use nn_base::{DirNo, FileName, NoMemory, Sub};
 use nn_host::Host;
 use nn_memhost::{Choice, Keep, MemHost, MemSource, Part, StopFault};
@@ -135,7 +135,7 @@ fn each_run_says_its_lines_and_ends_by_its_status(rt: HostRuntime) -> Result<(),
         let mut host = host_of(&rt, rt.alloc(), row.dirs, &[])?;
         let status = run(&rt, rt.alloc(), row.words, &mut host)?;
         assert!(rt; has_said(&host, row.said), "row {k}");
-        assert_eq!(rt; status.code(), row.code, "row {k}");
+        assert_eq!(rt; status, row.code, "row {k}");
         assert_eq!(rt; host.starved(), 0);
     }
     Ok(())
@@ -248,7 +248,7 @@ fn a_failed_call_ends_the_run_where_it_came(rt: HostRuntime) -> Result<(), Fail>
     for (dirs, call, said, code) in failing {
         let mut host = host_of(&rt, rt.alloc(), dirs, &[(call, Part::Half)])?;
         let status = run(&rt, rt.alloc(), "state A B", &mut host)?;
-        assert_eq!(rt; status.code(), code, "{call}");
+        assert_eq!(rt; status, code, "{call}");
         assert!(rt; has_said(&host, said), "{call}");
     }
     Ok(())
@@ -258,18 +258,18 @@ fn a_failed_call_ends_the_run_where_it_came(rt: HostRuntime) -> Result<(), Fail>
 fn a_format_that_fails_leaves_the_directories_before_it_formatted(
     rt: HostRuntime,
 ) -> Result<(), Fail> {
-    // Each directory is settled and asked seven questions, the calls 0 to 15. Then the first takes eleven calls, and the
-    // second is cleared, gets `current`, and its `seen_txid` is made, appended to and synced.
+    // Each directory is settled and asked seven questions, the calls 0 to 15. Then the first takes nineteen calls, and the
+    // second is cleared, gets `current`, and its image is made, filled and synced.
     let failing: [(u64, Part, &str, u8); 4] = [
-        (32, Part::Nothing, "fault 1\n0 NORMAL\n1 NOT_FORMATTED\n", 3),
+        (40, Part::Nothing, "fault 1\n0 NORMAL\n1 NOT_FORMATTED\n", 3),
         (
             8,
             Part::All,
             "fault 1\n0 NOT_FORMATTED\n1 NOT_FORMATTED\n",
             3,
         ),
-        (37, Part::All, "fault 1\n0 NORMAL\n1 NORMAL\n", 3),
-        (38, Part::Half, "format0 NORMAL\n1 NORMAL\n", 8),
+        (53, Part::All, "fault 1\n0 NORMAL\n1 NORMAL\n", 3),
+        (54, Part::Half, "format0 NORMAL\n1 NORMAL\n", 8),
     ];
     for (call, part, said, code) in failing {
         let mut host = host_of(&rt, rt.alloc(), ". .", &[(call, part)])?;
@@ -279,7 +279,7 @@ fn a_format_that_fails_leaves_the_directories_before_it_formatted(
             "format --cluster c1 --namespace 7 A B",
             &mut host,
         )?;
-        assert_eq!(rt; status.code(), code, "{call}");
+        assert_eq!(rt; status, code, "{call}");
         let _status = run(&rt, rt.alloc(), "state A B", &mut host)?;
         assert!(rt; has_said(&host, said), "{call}");
     }
@@ -382,13 +382,8 @@ fn give(rt: &impl Abort, host: &mut MemHost, i: DirNo, letter: u8) -> Result<(),
     host.with_file(i, sub, name, b"")
 }
 
-// Runs the words over a host that has as many directories as they name, without a script.
-fn run(
-    rt: &impl Abort,
-    alloc: Global,
-    line: &str,
-    host: &mut MemHost,
-) -> Result<Status, AllocError> {
+// Runs the words over a host that has as many directories as they name, without a script, and answers the exit status.
+fn run(rt: &impl Abort, alloc: Global, line: &str, host: &mut MemHost) -> Result<u8, AllocError> {
     let mut none = MemSource::new(Vec::new(alloc), Vec::new(alloc));
     run_line(rt, alloc, line, &mut none, host)
 }
@@ -399,7 +394,7 @@ fn run_line(
     line: &str,
     source: &mut MemSource,
     host: &mut MemHost,
-) -> Result<Status, AllocError> {
+) -> Result<u8, AllocError> {
     let mut words = Vec::new(alloc);
     for word in line.split(' ') {
         words.push(String::from_str(alloc, word)?)?;
@@ -413,10 +408,10 @@ fn run_words(
     words: &[String],
     source: &mut MemSource,
     host: &mut MemHost,
-) -> Status {
+) -> u8 {
     if let Some(command) = command_of(words) {
         assert!(rt; command.dirs().len() == host.count() as usize);
-        return namenode(alloc, words, source, host);
+        return namenode(alloc, words, source, host).code();
     }
-    namenode(alloc, words, source, host)
+    namenode(alloc, words, source, host).code()
 }

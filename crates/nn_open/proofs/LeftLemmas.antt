@@ -1,55 +1,91 @@
 -- What a stop leaves of a directory while it is formatted, and once it is.
-use Rattle.std.proofs.Common.{◌≡◌, inl, inr, ⊎_elim, ℕ, ◌<◌, List, Option, Some, None, refl, sym, ◌∙◌, ap}
-use Rattle.nn_base.specs.declared.sub.Sub.TheVariants.{Current}
-use Rattle.nn_base.specs.declared.file_name.FileName.TheVariants.{Version, Seen}
-use Rattle.nn_host.specs.Disk.{Disk, Reads, File, Leaves, LeavesFile}
+use Rattle.std.proofs.Common.{◌≡◌, inl, inr, ⊎_elim, ℕ, ◌+◌, ◌<◌, ◌≤◌, Some, None, Result, Ok, Err, OnOk, sym, ◌∙◌, ap, subst, arith, lit<}
+use Rattle.std.specs.Prelude.{pos, neg_ℤ}
+use Rattle.std.specs.Fmt.{decimal}
+use Rattle.std.proofs.lemmas.Option.{same_Some}
+use Rattle.nn_base.specs.declared.sub.Sub.TheVariants.{Current, Previous}
+use Rattle.nn_base.specs.declared.file_name.FileName.TheVariants.{Seen}
+use Rattle.nn_host.specs.Disk.{Disk, Reads, Leaves}
 use Rattle.nn_host.specs.Moments.{Moment, State, IsLawful, Left, moment, disk_at}
-use Rattle.nn_host.proofs.CleanLemmas.{sure_left}
 use Rattle.nn_host.proofs.LeftLemmas.{each_since}
 use Rattle.nn_state.specs.Table.{table_of}
+use Rattle.nn_state.specs.Typed.{FitsFresh}
 use Rattle.nn_marks.specs.Seen.{seen_text_of}
 use Rattle.nn_marks.specs.VersionText.{version_text_of}
 use Rattle.nn_marks.specs.declared.version.Version.{Version as Stamp}
+use Rattle.nn_marks.proofs.SeenLemmas.{number_in-decimal, seen_only}
 use Rattle.nn_marks.proofs.VersionTextLemmas.{reads_back}
-use Rattle.nn_open.specs.Formatted.{IsFresh, IsFormatted, ReadsFormatted, FreshOrNew, LeftFreshOrNew}
-use Rattle.nn_open.specs.Answers.{AllFresh, EachFreshOrNew}
+use Rattle.nn_tree.specs.Namespace.{empty_namespace}
+use Rattle.nn_chain.specs.Folder.{Folder, HasSeen}
+use Rattle.nn_remake.proofs.LeftLemmas.{made_left, made_intact, made_no_later, made_no_segment}
+use Rattle.nn_pick.proofs.AloneLemmas.{opens_alone}
+use Rattle.nn_open.specs.Formatted.{IsFormatted, ReadsFormatted, FreshOrNew, LeftFreshOrNew, OpensEmpty}
+use Rattle.nn_open.specs.Answers.{AllFresh, AllFormatted, EachFreshOrNew, StopsFreshOrOpen, first_unformattable}
 use Rattle.nn_open.proofs.StepLemmas.{seven_left}
 
-none_left : (f : Option File) (b : Option (List ℕ)) → f ≡ None → LeavesFile f b → b ≡ None
-none_left None None e l = refl
-none_left None (Some b) e l = absurd l
-none_left (Some f) b e l = cc
+pub formatted_left : (d : Disk) (c : Reads) → Leaves d c → (version : Stamp) → IsFormatted version d → ReadsFormatted version c
+formatted_left d c leaves version is = made_left version 0 empty_namespace d c is leaves
 
-pub formatted_left : (d : Disk) (c : Reads) → Leaves d c → (text : List ℕ) → IsFormatted text d → ReadsFormatted text c
-formatted_left d c leaves text is = record {
-  root = leaves.root ∙ is.root;
-  current = leaves.subs Current ∙ is.current;
-  other_subs = λ s ne. leaves.subs s ∙ is.other_subs s ne;
-  version_file = sure_left d c Current Version text leaves is.version_file;
-  seen_file = sure_left d c Current Seen (seen_text_of 0) leaves is.seen_file;
-  other_files = λ n a b. none_left (d.file Current n) (c.file Current n) (is.other_files n a b) (leaves.files Current n);
-}
+-- ---- it opens
+
+-- seen_txid says 0
+seen_none : (folder : Folder) → folder Seen ≡ Some (seen_text_of 0) → (id : ℕ) → HasSeen folder id → id ≤ 0 + 1
+seen_none folder there id (inr none) = omega (arith, none.0)
+seen_none folder there id (inl says) =
+    let text : says.0 ≡ seen_text_of 0 = same_Some says.0 (seen_text_of 0) (sym says.1 ∙ there) in
+    let zero : 0 ≡ id = same_Some 0 id (sym (number_in-decimal 0 (lit< tt)) ∙ seen_only says.0 (decimal 0) id (inl text) says.2) in
+    omega (arith, zero)
+
+pub formatted_opens : (version : Stamp) → version.layout ≡ neg_ℤ (pos 1001) → (c : Reads) → ReadsFormatted version c → OpensEmpty c
+formatted_opens version layout c is = opens_alone c version 0 empty_namespace (record {
+  normal = is.normal;
+  nothing_saved = is.whole.other_subs Previous (λ x. cc);
+  says = (version_text_of version, is.whole.version_file, reads_back version);
+  ours = layout;
+  intact = made_intact c is;
+  later = made_no_later c is;
+  segments = made_no_segment c is;
+  seen = seen_none (c.file Current) is.whole.seen_file;
+  room = lit< tt;
+})
+
+-- ---- what a stop leaves
 
 module _ (d : Disk) (c : Reads) (leaves : Leaves d c) where
-  pub fresh_left : IsFresh d → IsFresh c
+  pub fresh_left : FitsFresh d → FitsFresh c
   fresh_left fresh = ap table_of (seven_left d c leaves) ∙ fresh
 
-  pub left_fresh : IsFresh c → IsFresh d
+  pub left_fresh : FitsFresh c → FitsFresh d
   left_fresh fresh = ap table_of (sym (seven_left d c leaves)) ∙ fresh
 
-  -- not formatted, or formatted with a VERSION that says what it is to say
-  pub fresh_or_new_left : (version : Stamp) → FreshOrNew (version_text_of version) d → LeftFreshOrNew version c
-  fresh_or_new_left version is = ⊎_elim
-      (λ fresh. inl (fresh_left fresh))
-      (λ new. inr (record {
-        normal = ap table_of (seven_left d c leaves) ∙ new.normal;
-        whole = (version_text_of version, reads_back version, formatted_left d c leaves (version_text_of version) new.whole);
-      }))
-      is
+  -- not formatted, or formatted
+  pub fresh_or_new_left : (version : Stamp) → FreshOrNew version d → LeftFreshOrNew version c
+  fresh_or_new_left version is = ⊎_elim (λ fresh. inl (fresh_left fresh)) (λ new. inr (formatted_left d c leaves version new)) is
 
 -- a stop at any moment since a format began, over directories none of which was formatted
-pub left_by_format : {told : Type 0} {a b : State} (version : Stamp) → told → IsLawful a → AllFresh a → EachFreshOrNew told (version_text_of version) a b
+pub left_by_format : {told : Type 0} {a b : State} (version : Stamp) → told → IsLawful a → AllFresh a → EachFreshOrNew told version a b
     → (c : ℕ → Reads) (m : Moment) → Left b (moment a) c m → (i : ℕ) → i < a.count → LeftFreshOrNew version (c i)
 left_by_format {a = a} version tells lawful fresh run c m left i below = fresh_or_new_left (m.dirs i).disk (c i) (left.leaves i) version
-    (each_since (λ j d. j < a.count → FreshOrNew (version_text_of version) d) tells lawful
+    (each_since (λ j d. j < a.count → FreshOrNew version d) tells lawful
     (λ j under. inl (left_fresh (disk_at a j) (a.reads j) (lawful.reads j) (fresh j under))) run m left.since i below)
+
+pub stops_fresh_or_open : {told : Type 0} {a b : State} (version : Stamp) → version.layout ≡ neg_ℤ (pos 1001) → told → IsLawful a → AllFresh a → EachFreshOrNew told version a b → StopsFreshOrOpen a b
+stops_fresh_or_open version layout tells lawful fresh run c m left i below =
+    ⊎_elim (λ is. inl is) (λ new. inr (formatted_opens version layout (c i) new)) (left_by_format version tells lawful fresh run c m left i below)
+
+-- where no directory was refused, and the disk of each is formatted
+pub all_formatted : {T E : Type 0} (a b c : State) (version : Stamp) (result : Result T E) → version.layout ≡ neg_ℤ (pos 1001) → IsLawful c → b.count ≡ a.count → first_unformattable a.reads a.count ≡ None
+    → OnOk result ((j : ℕ) → j < b.count → IsFormatted version (disk_at c j)) → OnOk result (AllFormatted version a c)
+all_formatted a b c version (Err e) layout lawful same none disks = tt
+all_formatted a b c version (Ok v) layout lawful same none disks = record {
+  unrefused = none;
+  reads = reads;
+  disks = λ i below. disks i (inside i below);
+  opens = λ i below. formatted_opens version layout (c.reads i) (reads i below);
+}
+  where
+    inside : (i : ℕ) → i < a.count → i < b.count
+    inside i below = subst (λ (n : ℕ). i < n) (sym same) below
+
+    reads : (i : ℕ) → i < a.count → ReadsFormatted version (c.reads i)
+    reads i below = formatted_left (disk_at c i) (c.reads i) (lawful.reads i) version (disks i (inside i below))

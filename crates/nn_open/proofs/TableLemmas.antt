@@ -4,7 +4,7 @@ use Rattle.nn_host.specs.Disk.{Held}
 use Rattle.nn_state.specs.declared.state.Seven.{Seven}
 use Rattle.nn_state.specs.declared.state.StorageState.TheVariants.{NotFormatted, Normal}
 use Rattle.nn_state.specs.Table.{seven_of, table_of, rows, first_row}
-use Rattle.nn_open.specs.Formatted.{IsFresh}
+use Rattle.nn_state.specs.Typed.{FitsFresh}
 
 -- a root, and nothing by which a state is told
 abbrev pub fresh_seven : Seven
@@ -34,8 +34,8 @@ unfolding table_of
 fresh_only s e = only_fresh s.root s.previous_tmp s.removed_tmp s.finalized_tmp s.last_checkpoint_tmp s.current s.previous e
 
 module _ {A : Type 0} (d : Held A) where
-  pub fresh_has : IsFresh d → seven_of d ≡ fresh_seven
+  pub fresh_has : FitsFresh d → seven_of d ≡ fresh_seven
   fresh_has fresh = fresh_only (seven_of d) fresh
 
-  pub has_fresh : seven_of d ≡ fresh_seven → IsFresh d
+  pub has_fresh : seven_of d ≡ fresh_seven → FitsFresh d
   has_fresh e = ap table_of e ∙ fresh_table

@@ -1,51 +1,58 @@
 // The format of all name directories.
-ghost use Rattle.std.specs.Prelude.{◌≡◌, ◌≢◌, None, OnOk, IfErr, IsErrOf, pos, neg_ℤ};
+ghost use Rattle.std.specs.Prelude.{◌≡◌, ◌≢◌, ◌⊎◌, None, OnOk, IfErr, IsErrOf, pos, neg_ℤ};
+ghost use Rattle.nn_tree.specs.Namespace.{empty_namespace};
 ghost use Rattle.nn_pick.specs.declared.fault.OpenFault.TheVariants as fault;
-ghost use Rattle.nn_marks.specs.VersionText.{version_text_of};
 ghost use Rattle.nn_open.specs.Runs.{Unspoken};
-ghost use Rattle.nn_open.specs.Answers.{AllFresh, AllFormatted, IsRefused, EachFreshOrNew, EachAsBefore, IsCountedBy, first_unformattable};
+ghost use Rattle.nn_open.specs.Answers.{AllFresh, AllFormatted, IsRefused, EachFreshOrNew, EachAsBefore, StopsFreshOrOpen, IsCountedBy, first_unformattable};
 
 use crate::make::make_all;
 use crate::survey::survey;
 use nn_base::NoMemory;
 use nn_host::Host;
-use nn_marks::{Version, version_text};
+use nn_marks::Version;
 use nn_pick::OpenFault;
+use nn_tree::{PlainTree, Tree};
 use std::alloc::Global;
 
-/// Makes a new namespace in each name directory, in order: `current` with `seen_txid` of the id 0, and then VERSION. A
-/// `current` without VERSION, and `previous.checkpoint`, is removed first. All directories are settled and looked at before
-/// that: the first that isn't NOT_FORMATTED refuses, and nothing is changed.
+/// Makes a new namespace in each name directory, in order: `current` with an image of the empty namespace, `seen_txid` of the
+/// id 0, and then VERSION. A `current` without VERSION, and `previous.checkpoint`, is removed first. All directories are
+/// settled and looked at before that: the first that isn't NOT_FORMATTED refuses, and nothing is changed.
 ///
-/// After `Failed` some directories may be formatted, and the others are not; formatting again needs them emptied by hand.
-/// After `Memory` no call was made.
+/// After `Failed` or `Memory` some directories may be formatted, and the others are not; formatting again needs them emptied
+/// by hand.
 ///
 /// Like Hadoop's `namenode -format`, without its `-force`: it asks nothing and removes no state.
 pub fn format<H: Host>(alloc: Global, host: &mut H, version: &Version) -> Result<(), OpenFault>
     requires new { version.now.ctime ≡ 0 }
     requires layout { version.now.layout ≡ neg_ℤ (pos 1001) }
-    ensures ok { H.told → OnOk result (AllFormatted (version_text_of version.now) (H.state host.old) (H.state host.new)) }
+    ensures ok { H.told → OnOk result (AllFormatted version.now (H.state host.old) (H.state host.new)) }
     ensures refused { H.told → IfErr result (λ why. (refusal : _) → why ≡ OpenFault.Refused refusal → IsRefused refusal (H.state host.old) (H.state host.new)) }
-    ensures memory { IsErrOf result fault.Memory → H.state host.new ≡ H.state host.old }
-    ensures any_moment { AllFresh (H.state host.old) → EachFreshOrNew H.told (version_text_of version.now) (H.state host.old) (H.state host.new) }
+    ensures memory { H.told → IsErrOf result fault.Memory → (H.state host.new ≡ H.state host.old) ⊎ AllFresh (H.state host.old) }
+    ensures any_moment { AllFresh (H.state host.old) → EachFreshOrNew H.told version.now (H.state host.old) (H.state host.new) }
+    ensures stops { H.told → AllFresh (H.state host.old) → StopsFreshOrOpen (H.state host.old) (H.state host.new) }
     ensures unchanged { first_unformattable (H.state host.old).reads (H.state host.old).count ≢ None → EachAsBefore H.told (H.state host.old) (H.state host.new) }
     ensures quiet { Unspoken H.told (H.state host.old) (H.state host.new) }
     ensures cause { IsCountedBy (H.state host.old) (H.state host.new) result }
 {
-    // Before any change, so that want of memory comes before it too.
-    let text = match version_text(alloc, version) {
-        Ok(text) => text,
-        Err(NoMemory) => return Err(OpenFault::Memory),
-    };
-    format_all(host, &text)
+    match PlainTree::new(alloc) {
+        Ok(tree) => format_all(alloc, host, &tree, version),
+        Err(NoMemory) => Err(OpenFault::Memory),
+    }
 }
 
-// The same under a VERSION of this text.
-fn format_all<H: Host>(host: &mut H, text: &[u8]) -> Result<(), OpenFault>
-    ensures ok { H.told → OnOk result (AllFormatted text.now (H.state host.old) (H.state host.new)) }
+// The same with a tree that is the empty namespace.
+fn format_all<H: Host, T: Tree>(
+    alloc: Global,
+    host: &mut H,
+    tree: &T,
+    version: &Version,
+) -> Result<(), OpenFault>
+    requires layout { version.now.layout ≡ neg_ℤ (pos 1001) }
+    requires empty { T.meaning tree.now ≡ empty_namespace }
+    ensures ok { H.told → OnOk result (AllFormatted version.now (H.state host.old) (H.state host.new)) }
     ensures refused { H.told → IfErr result (λ why. (refusal : _) → why ≡ OpenFault.Refused refusal → IsRefused refusal (H.state host.old) (H.state host.new)) }
-    ensures no_memory { IfErr result (λ why. why ≢ OpenFault.Memory) }
-    ensures any_moment { AllFresh (H.state host.old) → EachFreshOrNew H.told text.now (H.state host.old) (H.state host.new) }
+    ensures memory { H.told → IsErrOf result fault.Memory → AllFresh (H.state host.old) }
+    ensures any_moment { AllFresh (H.state host.old) → EachFreshOrNew H.told version.now (H.state host.old) (H.state host.new) }
     ensures unchanged { first_unformattable (H.state host.old).reads (H.state host.old).count ≢ None → EachAsBefore H.told (H.state host.old) (H.state host.new) }
     ensures quiet { Unspoken H.told (H.state host.old) (H.state host.new) }
     ensures cause { IsCountedBy (H.state host.old) (H.state host.new) result }
@@ -53,6 +60,5 @@ fn format_all<H: Host>(host: &mut H, text: &[u8]) -> Result<(), OpenFault>
     if let Some(refusal) = survey(host)? {
         return Err(OpenFault::Refused(refusal));
     }
-    make_all(host, text)?;
-    Ok(())
+    make_all(alloc, host, tree, version)
 }

@@ -1,5 +1,5 @@
-//! Formatting: a new namespace in each name directory, so that a stop at any moment leaves each of them not formatted or
-//! formatted whole. It knows nothing of images and journals, and says nothing.
+//! Formatting: a new namespace in each name directory, so that a stop at any moment leaves each of them not formatted, or one
+//! that alone opens to the empty namespace. It knows nothing of journals, and says nothing.
 #![tactic(auto)]
 
 mod fault;

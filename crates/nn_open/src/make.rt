@@ -1,97 +1,77 @@
 // Making a new namespace in each directory.
-ghost use Rattle.std.specs.Prelude.{◌≡◌, ◌<◌, ℕ, true, OnOk, MatchResult};
-ghost use Rattle.nn_base.specs.declared.sub.Sub.TheVariants.{Current};
-ghost use Rattle.nn_base.specs.declared.file_name.FileName.TheVariants.{Seen, SeenTmp};
+ghost use Rattle.std.specs.Prelude.{◌≡◌, ◌≢◌, ◌<◌, ℕ, OnOk, IfErr};
 ghost use Rattle.nn_host.specs.Moments.{disk_at};
 ghost use Rattle.nn_host.specs.Calls.{IsCounted};
 ghost use Rattle.nn_host.specs.Runs.{OnlyAt};
-ghost use Rattle.nn_small.specs.Small.{OldOrNew, Written};
-ghost use Rattle.nn_marks.specs.Seen.{seen_text_of};
-ghost use Rattle.nn_open.specs.Formatted.{IsFresh, IsBare, IsFormatted, FreshOrNew};
-ghost use Rattle.nn_open.specs.Runs.{RoseAt, SameCounts, Unspoken};
-ghost use Rattle.nn_open.specs.Answers.{EachFreshOrNew};
+ghost use Rattle.nn_state.specs.Typed.{FitsFresh};
+ghost use Rattle.nn_tree.specs.Namespace.{empty_namespace};
+ghost use Rattle.nn_remake.specs.Counts.{IsCountedBy as IsCountedAt};
+ghost use Rattle.nn_remake.specs.Made.{IsBare};
+ghost use Rattle.nn_open.specs.Formatted.{IsFormatted, FreshOrNew};
+ghost use Rattle.nn_open.specs.Runs.{Unspoken};
+ghost use Rattle.nn_open.specs.Answers.{EachFreshOrNew, IsCountedBy};
 
-use crate::fault::FailedAt;
-use nn_base::{DirNo, FileName, Sub, Txid};
+use nn_base::{DirNo, Sub, Txid};
 use nn_host::{Failed, Host};
-use nn_marks::seen_text;
-use nn_small::write_small;
+use nn_marks::Version;
+use nn_pick::OpenFault;
+use nn_remake::{MakeFault, make};
+use nn_state::Fresh;
+use nn_tree::Tree;
+use std::alloc::Global;
 
-/// Makes a new namespace in each directory, in order, under a VERSION of this text.
-pub fn make_all<H: Host>(host: &mut H, text: &[u8]) -> Result<(), FailedAt>
-    requires fresh { H.told → (j : ℕ) → j < (H.state host.old).count → IsFresh (disk_at (H.state host.old) j) }
-    ensures ok { H.told → OnOk result ((j : ℕ) → j < (H.state host.old).count → IsFormatted text.now (disk_at (H.state host.new) j)) }
-    ensures any_moment { EachFreshOrNew H.told text.now (H.state host.old) (H.state host.new) }
+/// Makes the empty namespace, which the tree is, in each directory, in order, under this VERSION.
+pub fn make_all<H: Host, T: Tree>(
+    alloc: Global,
+    host: &mut H,
+    tree: &T,
+    version: &Version,
+) -> Result<(), OpenFault>
+    requires fresh { H.told → (j : ℕ) → j < (H.state host.old).count → FitsFresh (disk_at (H.state host.old) j) }
+    requires empty { T.meaning tree.now ≡ empty_namespace }
+    ensures ok { H.told → OnOk result ((j : ℕ) → j < (H.state host.old).count → IsFormatted version.now (disk_at (H.state host.new) j)) }
+    ensures unrefused { IfErr result (λ why. (refusal : _) → why ≢ OpenFault.Refused refusal) }
+    ensures any_moment { EachFreshOrNew H.told version.now (H.state host.old) (H.state host.new) }
     ensures quiet { Unspoken H.told (H.state host.old) (H.state host.new) }
-    ensures cause { MatchResult result (λ _. SameCounts (H.state host.old) (H.state host.new)) (λ at. RoseAt at.0.0 (H.state host.old) (H.state host.new)) }
+    ensures cause { IsCountedBy (H.state host.old) (H.state host.new) result }
 {
     for i in 0..host.count() {
-        match make_dir(host, DirNo(i), text) {
+        match make_dir(alloc, host, DirNo(i), tree, version) {
             Ok(()) => {}
-            Err(Failed) => return Err(FailedAt(DirNo(i))),
+            Err(MakeFault::Failed) => return Err(OpenFault::Failed(DirNo(i))),
+            Err(MakeFault::Memory) => return Err(OpenFault::Memory),
         }
     }
     Ok(())
 }
 
-fn make_dir<H: Host>(host: &mut H, i: DirNo, text: &[u8]) -> Result<(), Failed>
+fn make_dir<H: Host, T: Tree>(
+    alloc: Global,
+    host: &mut H,
+    i: DirNo,
+    tree: &T,
+    version: &Version,
+) -> Result<(), MakeFault>
     requires below { i.0 < (H.state host.old).count }
-    requires fresh { H.told → IsFresh (disk_at (H.state host.old) i.0) }
-    ensures ok { H.told → OnOk result (IsFormatted text.now (disk_at (H.state host.new) i.0)) }
-    ensures any_moment { OnlyAt H.told i.0 (H.state host.old) (H.state host.new) (FreshOrNew text.now) }
-    ensures cause { IsCounted i.0 (H.state host.old) (H.state host.new) result }
+    requires fresh { H.told → FitsFresh (disk_at (H.state host.old) i.0) }
+    requires empty { T.meaning tree.now ≡ empty_namespace }
+    ensures ok { H.told → OnOk result (IsFormatted version.now (disk_at (H.state host.new) i.0)) }
+    ensures any_moment { OnlyAt H.told i.0 (H.state host.old) (H.state host.new) (FreshOrNew version.now) }
+    ensures cause { IsCountedAt i.0 (H.state host.old) (H.state host.new) result }
 {
     clear_dir(host, i)?;
-    fill_dir(host, i, text)
+    make(alloc, host, Fresh { dir: i }, tree, Txid(0), version)?;
+    Ok(())
 }
 
 // Takes away what a directory without VERSION may still have.
 fn clear_dir<H: Host>(host: &mut H, i: DirNo) -> Result<(), Failed>
     requires below { i.0 < (H.state host.old).count }
-    requires fresh { H.told → IsFresh (disk_at (H.state host.old) i.0) }
+    requires fresh { H.told → FitsFresh (disk_at (H.state host.old) i.0) }
     ensures ok { H.told → OnOk result (IsBare (disk_at (H.state host.new) i.0)) }
-    ensures any_moment { OnlyAt H.told i.0 (H.state host.old) (H.state host.new) IsFresh }
+    ensures any_moment { OnlyAt H.told i.0 (H.state host.old) (H.state host.new) FitsFresh }
     ensures cause { IsCounted i.0 (H.state host.old) (H.state host.new) result }
 {
     host.remove_sub(i, Sub::Current)?;
     host.remove_sub(i, Sub::PreviousCheckpoint)
-}
-
-// VERSION comes last: it alone makes the directory formatted, so by then all else stands.
-fn fill_dir<H: Host>(host: &mut H, i: DirNo, text: &[u8]) -> Result<(), Failed>
-    requires below { i.0 < (H.state host.old).count }
-    requires bare { H.told → IsBare (disk_at (H.state host.old) i.0) }
-    ensures ok { H.told → OnOk result (IsFormatted text.now (disk_at (H.state host.new) i.0)) }
-    ensures any_moment { OnlyAt H.told i.0 (H.state host.old) (H.state host.new) (FreshOrNew text.now) }
-    ensures cause { IsCounted i.0 (H.state host.old) (H.state host.new) result }
-{
-    host.make_sub(i, Sub::Current)?;
-    write_seen(host, i)?;
-    write_small(
-        host,
-        i,
-        Sub::Current,
-        FileName::VersionTmp,
-        FileName::Version,
-        text,
-    )
-}
-
-// Before the first transaction the journal has reached the id 0.
-fn write_seen<H: Host>(host: &mut H, i: DirNo) -> Result<(), Failed>
-    requires below { i.0 < (H.state host.old).count }
-    ensures ok { H.told → (disk_at (H.state host.old) i.0).has Current ≡ true → OnOk result (Written i.0 Current SeenTmp Seen (seen_text_of 0) (H.state host.old) (H.state host.new)) }
-    ensures any_moment { OnlyAt H.told i.0 (H.state host.old) (H.state host.new) (OldOrNew Current SeenTmp Seen (seen_text_of 0) (disk_at (H.state host.old) i.0)) }
-    ensures cause { IsCounted i.0 (H.state host.old) (H.state host.new) result }
-{
-    let mut digits = [0; 20];
-    let len = seen_text(Txid(0), &mut digits);
-    write_small(
-        host,
-        i,
-        Sub::Current,
-        FileName::SeenTmp,
-        FileName::Seen,
-        &digits[..len],
-    )
 }

@@ -13,10 +13,20 @@ use std::test::Fail;
 const VERSION: &[u8] =
     b"namespaceID=7\nclusterID=c1\ncTime=0\nstorageType=NAME_NODE\nblockpoolID=BP-7\nlayoutVersion=-1001\n";
 
+// The image of the empty namespace of the namespaceID 7 at the id 0, and its MD5 file.
+const EMPTY: &[u8] = b"HDFSIMG1\
+\x0d\x08\x07\x18\xe8\x07\x28\x80\x80\x80\x80\x04\x30\x00\
+\x02\x08\x02\x08\x08\x01\x12\x04hdfs\x0e\x08\x02\x12\x0asupergroup\
+\x06\x08\x81\x80\x01\x10\x01\x13\x08\x02\x10\x81\x80\x01\x1a\x00\x2a\x09\x08\x00\x20\x01\x28\x02\x30\xed\x03\
+\x46\x08\x01\x10\xe9\x07\x22\x0d\x0a\x07NS_INFO\x10\x0e\x18\x08\x22\x12\x0a\x0cSTRING_TABLE\x10\x1b\x18\x16\
+\x22\x0b\x0a\x05INODE\x10\x1b\x18\x31\x22\x0f\x0a\x09INODE_DIR\x10\x00\x18\x4c\x00\x00\x00\x47";
+
+const EMPTY_MD5: &[u8] = b"f3ba8c0faeee0795b7ba148b670dfc18 *fsimage_0000000000000000000\n";
+
 // How many calls look at a directory, and how many then make it.
 const SURVEY: u64 = 8;
 
-const MAKE: u64 = 11;
+const MAKE: u64 = 19;
 
 // Formats with what `VERSION` says.
 fn format_seven(alloc: Global, host: &mut MemHost) -> Result<(), OpenFault> {
@@ -64,7 +74,7 @@ fn give(host: &mut MemHost, i: DirNo, sub: Sub, name: FileName) -> bool {
 }
 
 #[test]
-fn a_format_leaves_version_and_seen_txid_and_no_more(rt: HostRuntime) -> Result<(), Fail> {
+fn a_format_leaves_version_seen_txid_and_an_image_and_no_more(rt: HostRuntime) -> Result<(), Fail> {
     let alloc = rt.alloc();
     let mut host = MemHost::new(alloc, 2, Vec::new(alloc))?;
     assert!(rt; give(&mut host, DirNo(0), Sub::Current, FileName::Image(Txid(5))));
@@ -80,9 +90,17 @@ fn a_format_leaves_version_and_seen_txid_and_no_more(rt: HostRuntime) -> Result<
     assert!(rt; host.calls() == 2 * (SURVEY + MAKE));
     for i in [DirNo(0), DirNo(1)] {
         let names = names(alloc, &mut host, i);
-        assert!(rt; names.as_slice() == [FileName::Version, FileName::Seen].as_slice());
+        let four = [
+            FileName::Version,
+            FileName::Image(Txid(0)),
+            FileName::Md5(Txid(0)),
+            FileName::Seen,
+        ];
+        assert!(rt; names.as_slice() == four.as_slice());
         assert!(rt; has_bytes(alloc, &mut host, i, FileName::Version, VERSION));
         assert!(rt; has_bytes(alloc, &mut host, i, FileName::Seen, b"0\n"));
+        assert!(rt; has_bytes(alloc, &mut host, i, FileName::Image(Txid(0)), EMPTY));
+        assert!(rt; has_bytes(alloc, &mut host, i, FileName::Md5(Txid(0)), EMPTY_MD5));
         for sub in [
             Sub::Previous,
             Sub::PreviousTmp,
@@ -138,11 +156,16 @@ fn the_first_directory_that_is_not_empty_of_state_refuses(rt: HostRuntime) -> Re
     Ok(())
 }
 
-// Each directory is not formatted, or is NORMAL under the VERSION that was handed in.
+// Each directory is not formatted, or is NORMAL with the image under the VERSION that was handed in.
 fn is_whole(alloc: Global, host: &mut MemHost, i: DirNo) -> bool {
     match state_of(host, i) {
         Some(Ok(StorageState::NotFormatted)) => true,
-        Some(Ok(StorageState::Normal)) => reads_back(alloc, host, i),
+        Some(Ok(StorageState::Normal)) => {
+            reads_back(alloc, host, i)
+                && has_bytes(alloc, host, i, FileName::Seen, b"0\n")
+                && has_bytes(alloc, host, i, FileName::Image(Txid(0)), EMPTY)
+                && has_bytes(alloc, host, i, FileName::Md5(Txid(0)), EMPTY_MD5)
+        }
         _ => false,
     }
 }
@@ -181,7 +204,7 @@ fn a_stop_inside_any_call_leaves_each_directory_unformatted_or_whole(
 #[test]
 fn a_failure_leaves_the_directories_before_it_formatted(rt: HostRuntime) -> Result<(), Fail> {
     let alloc = rt.alloc();
-    // In directory 1: two removals, `current`, and then seen_txid is made, filled and synced.
+    // In directory 1: two removals, `current`, and then the image is made, filled and synced.
     let sync = 2 * SURVEY + MAKE + 5;
     let fails = Vec::from_array(alloc, [(sync, Part::Nothing)])?;
     let mut host = MemHost::new(alloc, 2, fails)?;

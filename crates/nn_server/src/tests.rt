@@ -1,14 +1,14 @@
 // Whole runs over a host and a source in memory.
-use crate::{Status, dry};
+use crate::dry;
 use nn_base::NoMemory;
 use nn_memhost::{MemHost, MemSource, Part};
 use std::alloc::Global;
 use std::test::Fail;
 
-// How a run ended: by its status, and with how many calls of the output.
+// How a run ended: by its exit status, and with how many calls of the output.
 #[derive(Clone, Copy, Debug, PartialEq, Eq)]
 struct End {
-    status: Status,
+    code: u8,
     as_told: bool,
     calls: u64,
 }
@@ -32,9 +32,9 @@ fn run(
     }
     let mut host = MemHost::new(alloc, 0, fails)?;
     let mut source = MemSource::new(script, takes);
-    let status = dry(alloc, &mut host, &mut source);
+    let code = dry(alloc, &mut host, &mut source).code();
     Ok(End {
-        status,
+        code,
         as_told: host.said() == told.as_bytes(),
         calls: host.calls(),
     })
@@ -49,7 +49,7 @@ fn answers(alloc: Global, script: &str, told: &str) -> Result<bool, NoMemory> {
         None,
         told,
     )?;
-    Ok(end.status == Status::Ok && end.as_told)
+    Ok(end.code == 0 && end.as_told)
 }
 
 // A text between two others, one byte so many times.
@@ -139,7 +139,7 @@ fn lines_of_any_length_are_read(rt: HostRuntime) -> Result<(), Fail> {
     for (before, byte, count, after, told) in rows {
         let script = around(alloc, before, byte, count, after)?;
         let end = run(alloc, script, None, None, told)?;
-        assert_eq!(rt; end.status, Status::Ok);
+        assert_eq!(rt; end.code, 0);
         assert!(rt; end.as_told, "{before}{count}{after}");
     }
     Ok(())
@@ -165,39 +165,18 @@ fn a_path_of_8000_bytes_is_looked_for_and_one_of_8001_is_none(rt: HostRuntime) -
 fn a_run_ends_where_its_source_or_its_output_fails(rt: HostRuntime) -> Result<(), Fail> {
     let alloc = rt.alloc();
     let rows = [
-        ("mkdir /a\n", None, Some(0), "", Status::SourceFault, 0),
-        (
-            "mkdir /a\nmkdir /b",
-            None,
-            Some(1),
-            "ok\n",
-            Status::SourceFault,
-            1,
-        ),
-        (
-            "mkdir /a\nmkdir /b\n",
-            Some(1),
-            None,
-            "ok\n",
-            Status::OutFault,
-            2,
-        ),
-        (
-            "mkdir /a\nmkdir /b\nmkdir /c\n",
-            Some(0),
-            None,
-            "",
-            Status::OutFault,
-            1,
-        ),
+        ("mkdir /a\n", None, Some(0), "", 5, 0),
+        ("mkdir /a\nmkdir /b", None, Some(1), "ok\n", 5, 1),
+        ("mkdir /a\nmkdir /b\n", Some(1), None, "ok\n", 8, 2),
+        ("mkdir /a\nmkdir /b\nmkdir /c\n", Some(0), None, "", 8, 1),
     ];
-    for (script, out_fails, source_fails, told, status, calls) in rows {
+    for (script, out_fails, source_fails, told, code, calls) in rows {
         let bytes = Vec::from_slice(alloc, script.as_bytes())?;
         let end = run(alloc, bytes, out_fails, source_fails, told)?;
         assert_eq!(rt;
             end,
             End {
-                status,
+                code,
                 as_told: true,
                 calls
             }
@@ -214,7 +193,7 @@ fn a_script_of_2_to_the_26_newlines_has_no_answer(rt: HostRuntime) -> Result<(),
     let alloc = rt.alloc();
     let script = vec![in alloc; b'\n'; NEWLINES]?;
     let end = run(alloc, script, None, None, "")?;
-    assert_eq!(rt; (end.status, end.calls), (Status::Ok, 0));
+    assert_eq!(rt; (end.code, end.calls), (0, 0));
     Ok(())
 }
 
@@ -223,7 +202,7 @@ fn a_script_of_one_newline_more_is_too_long(rt: HostRuntime) -> Result<(), Fail>
     let alloc = rt.alloc();
     let script = vec![in alloc; b'\n'; NEWLINES + 1]?;
     let end = run(alloc, script, None, None, "")?;
-    assert_eq!(rt; (end.status, end.calls), (Status::ScriptTooLong, 0));
+    assert_eq!(rt; (end.code, end.calls), (6, 0));
     Ok(())
 }
 
@@ -232,36 +211,16 @@ fn the_last_line_of_a_script_that_is_too_long_has_no_answer(rt: HostRuntime) -> 
     let alloc = rt.alloc();
     // `roll`, a comment, and a `roll` of which the newline, or its `l`, is the byte that is too many.
     let rows = [
-        (
-            67_108_854,
-            "\nroll",
-            "refused dry\nrefused dry\n",
-            Status::Ok,
-        ),
-        (
-            67_108_854,
-            "\nroll\n",
-            "refused dry\n",
-            Status::ScriptTooLong,
-        ),
-        (67_108_855, "\nroll", "refused dry\n", Status::ScriptTooLong),
-        (
-            67_108_853,
-            "\nroll\n",
-            "refused dry\nrefused dry\n",
-            Status::Ok,
-        ),
-        (
-            67_108_853,
-            "\nroll\n\n",
-            "refused dry\nrefused dry\n",
-            Status::ScriptTooLong,
-        ),
+        (67_108_854, "\nroll", "refused dry\nrefused dry\n", 0),
+        (67_108_854, "\nroll\n", "refused dry\n", 6),
+        (67_108_855, "\nroll", "refused dry\n", 6),
+        (67_108_853, "\nroll\n", "refused dry\nrefused dry\n", 0),
+        (67_108_853, "\nroll\n\n", "refused dry\nrefused dry\n", 6),
     ];
-    for (count, after, told, status) in rows {
+    for (count, after, told, code) in rows {
         let script = around(alloc, "roll\n", b'#', count, after)?;
         let end = run(alloc, script, None, None, told)?;
-        assert_eq!(rt; (end.status, end.as_told), (status, true));
+        assert_eq!(rt; (end.code, end.as_told), (code, true));
     }
     Ok(())
 }
@@ -281,7 +240,7 @@ fn a_long_listing_goes_out_in_pieces(rt: HostRuntime) -> Result<(), Fail> {
     assert_eq!(rt;
         end,
         End {
-            status: Status::Ok,
+            code: 0,
             as_told: false,
             calls: 302
         }

@@ -94,7 +94,7 @@ fn a_script_is_answered_line_by_line_on_a_namespace_in_memory(rt: HostRuntime) -
         let mut source = MemSource::new(script, unread);
         let status = run_line(&rt, rt.alloc(), "dry", &mut source, &mut host)?;
         assert!(rt; has_said(&host, row.said), "row {k}");
-        assert_eq!(rt; status.code(), row.code, "row {k}");
+        assert_eq!(rt; status, row.code, "row {k}");
     }
     Ok(())
 }
@@ -106,7 +106,7 @@ fn a_script_of_more_than_2_to_the_26_bytes_is_too_long(rt: HostRuntime) -> Resul
     let mut host = host_of(&rt, rt.alloc(), "", &[])?;
     let status = run_line(&rt, rt.alloc(), "dry --", &mut source, &mut host)?;
     assert!(rt; has_said(&host, "script too long\n"));
-    assert_eq!(rt; status.code(), 6);
+    assert_eq!(rt; status, 6);
     Ok(())
 }
 

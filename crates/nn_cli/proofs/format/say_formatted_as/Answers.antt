@@ -1,6 +1,6 @@
 use Rattle.nn_host.proofs.RunsLemmas.{out_whole_trans, out_spoke, silent_after, silent_spoke}
 use Rattle.nn_host.proofs.WorkLemmas.{each_dir_said}
-use Rattle.nn_cli.proofs.FormatLemmas.{out_whole, count_front}
+use Rattle.nn_cli.proofs.FormatLemmas.{out_whole, count_front, formatted_said}
 use Rattle.nn_cli.proofs.format.say_formatted_as.Goals as goal
 
 pub returns-in-Ok-say_count-clause-any_moment : goal.returns-in-Ok-say_count-clause-any_moment
@@ -23,3 +23,6 @@ returns-in-Ok-say_count-clause-as_before g c = λ some. each_dir_said (c.in-Ok.e
 
 pub returns-in-Err-clause-as_before : goal.returns-in-Err-clause-as_before
 returns-in-Err-clause-as_before g c = λ some. each_dir_said (c.in-Ok.ensures.unchanged some) c.say_count.ensures
+
+pub returns-in-Ok-say_count-clause-formatted : goal.returns-in-Ok-say_count-clause-formatted
+returns-in-Ok-say_count-clause-formatted g c = λ tells is. formatted_said c.args.version.now (c.in-Ok.ensures.ok tells) c.say_count.ensures

@@ -1,7 +1,6 @@
 -- What was done is what the words ask for.
 use Rattle.std.proofs.Common.{ℕ, inr, subst}
 use Rattle.nn_marks.specs.declared.version.Version.{Version}
-use Rattle.nn_marks.specs.VersionText.{version_text_of}
 use Rattle.nn_open.specs.Answers.{AllFormatted}
 use Rattle.nn_cli.specs.Words.{Word, texts}
 use Rattle.nn_cli.specs.Commands.{AskFor}
@@ -80,7 +79,7 @@ returns-in-Format-clause-formatted g c = λ tells is cluster namespace dirs asks
     let entry = g.H.Host.state c.args.host.now in
     let exit = g.H.Host.state c.say_formatted.new.host in
     let asked = subst (λ (command : Command). AskFor words command) c.in-Format.is c.in-Some.ensures.some in
-    as_read (λ (id : Word) (number : ℕ). (version : Version) × IsNewVersion id number version × AllFormatted (version_text_of version) entry exit)
+    as_read (λ (id : Word) (number : ℕ). (version : Version) × IsNewVersion id number version × AllFormatted version entry exit)
     words (texts c.in-Format.dirs.now) dirs c.in-Format.cluster cluster c.in-Format.namespace namespace
     asked (c.say_formatted.ensures.formatted tells is) asks
 

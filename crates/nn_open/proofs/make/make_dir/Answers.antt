@@ -1,6 +1,17 @@
-use Rattle.std.proofs.Common.{inl}
-use Rattle.nn_host.proofs.WorkLemmas.{work_trans, work_weaker}
+use Rattle.std.proofs.Common.{sym, subst}
+use Rattle.nn_image.specs.Imaged.{IsImaged}
+use Rattle.nn_image.proofs.EmptyLemmas.{imaged_empty}
+use Rattle.nn_open.proofs.CallLemmas.{work_cleared, work_made}
 use Rattle.nn_open.proofs.make.make_dir.Goals as goal
 
+pub make-requires-clause-imaged : goal.make-requires-clause-imaged
+make-requires-clause-imaged g c = subst IsImaged (sym c.requires.empty) imaged_empty
+
+pub returns-in_err-clear_dir-clause-any_moment : goal.returns-in_err-clear_dir-clause-any_moment
+returns-in_err-clear_dir-clause-any_moment g c = work_cleared c.in_err-clear_dir.ensures.any_moment
+
+pub returns-in_err-make-clause-any_moment : goal.returns-in_err-make-clause-any_moment
+returns-in_err-make-clause-any_moment g c = work_made c.requires.empty c.in_ok-clear_dir.ensures.any_moment c.in_err-make.ensures.any_moment
+
 pub returns-clause-any_moment : goal.returns-clause-any_moment
-returns-clause-any_moment g c = work_trans (work_weaker c.in_ok-clear_dir.ensures.any_moment (λ tells d fresh. inl fresh)) c.fill_dir.ensures.any_moment
+returns-clause-any_moment g c = work_made c.requires.empty c.in_ok-clear_dir.ensures.any_moment c.in_ok-make.ensures.any_moment
