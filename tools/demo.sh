@@ -25,6 +25,8 @@ run state formatted
 mkdir a b c d e f g h
 run format --cluster=c1 --namespace 7 a b c d e f g h
 run state a b c d e f g h
+(cd a/current && echo '$ cd a/current; ls; md5sum -c fsimage_0000000000000000000.md5' && ls && md5sum -c fsimage_0000000000000000000.md5)
+echo
 run format --cluster=c1 --namespace 7 a b c d e f g h
 
 cat > script <<'END'
