@@ -302,6 +302,7 @@ impl Host for MemHost {
         requires { i.0 < (mem_state self.old).count }
         ensures call { Called (Unit {0}) i.0 Settle (mem_state self.old) (mem_state self.new) result }
         ensures cause { FailsAsListed self.old self.new result }
+        ensures part { LeavesAsListed i.0 Settle self.old self.new }
     {
         self.ask(i, Asked::Settle)
     }
