@@ -3,7 +3,7 @@ use Rattle.std.proofs.Common.{◌≡◌, Bool, true, false, cond, ◌&&◌, List
 use Rattle.std.specs.Prelude.{option_and_then}
 use Rattle.std.proofs.lemmas.Bool.{and_from, and_left, and_right}
 use Rattle.nn_base.specs.Paths.{Bytes}
-use Rattle.nn_image.specs.Messages.{Content, Inode, DirEntry}
+use Rattle.nn_message.specs.Messages.{Content, Inode, DirEntry}
 use Rattle.nn_image.specs.Assembly.{Partial, table_of, add_inode, add_inodes, add_root, add_all, is_table, is_whole, are_all_given, namespace_of, finished, assemble}
 
 -- ---- nodes

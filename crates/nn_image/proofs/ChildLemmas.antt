@@ -25,7 +25,7 @@ use Rattle.nn_tree.proofs.OrderLemmas.{cancel, under_front, name_above}
 use Rattle.nn_tree.proofs.SortedLemmas.{rises, count_at, find_at, found_at}
 use Rattle.nn_image.specs.Image.{is_child, children, child_ids, entry_of}
 use Rattle.nn_image.specs.Saving.{passed, IsAmongChildren, entry_text}
-use Rattle.nn_image.specs.Spelling.{delimited, dir_entry}
+use Rattle.nn_message.specs.Spelling.{delimited, dir_entry}
 
 pub is_true : (b : Bool) → T b → b ≡ true
 is_true true h = refl

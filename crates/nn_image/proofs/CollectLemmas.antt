@@ -17,7 +17,7 @@ use Rattle.nn_tree.specs.Namespace.{Nodes}
 use Rattle.nn_tree.specs.Limits.{IsWithinLimits}
 use Rattle.nn_tree.specs.Below.{entries_below, visited, count_before, IsNextBelow, IsBelow}
 use Rattle.nn_tree.proofs.BelowLemmas.{take_one_more, entry_at, entry_of, none_visited}
-use Rattle.nn_image.specs.Messages.{IsLabel}
+use Rattle.nn_message.specs.Messages.{IsLabel}
 use Rattle.nn_image.specs.Image.{labels, string_table}
 use Rattle.nn_image.proofs.ListsLemmas.{filter_all}
 

@@ -12,7 +12,7 @@ use Rattle.nn_tree.specs.declared.node.Node.{Node}
 use Rattle.nn_tree.specs.Namespace.{Namespace, Nodes}
 use Rattle.nn_tree.specs.Spots.{last_name}
 use Rattle.nn_tree.proofs.LinksLemmas.{some_of}
-use Rattle.nn_image.specs.Messages.{Inode, IsInode, DirEntry}
+use Rattle.nn_message.specs.Messages.{Inode, IsInode, DirEntry}
 use Rattle.nn_image.specs.Image.{labels, string_table, attributes_of, inode_of, child_ids}
 use Rattle.nn_image.specs.Imaged.{IsImaged}
 use Rattle.nn_image.specs.Assembly.{Owned, node_of, Partial, nothing_put, Place, Listing, waiting, use_names, placed, listing, with_node, add_inode, add_inodes, add_root}

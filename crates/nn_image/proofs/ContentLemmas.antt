@@ -11,7 +11,7 @@ use Rattle.nn_strtab.specs.Numbers.{number_in, with_use}
 use Rattle.nn_tree.specs.declared.node.Node.{Node}
 use Rattle.nn_tree.specs.Namespace.{Namespace, Nodes}
 use Rattle.nn_tree.specs.Spots.{last_name}
-use Rattle.nn_image.specs.Messages.{IsLong, IsLabel, IsNamespaceId, IsText, IsInode, IsDirEntry, IsContent}
+use Rattle.nn_message.specs.Messages.{IsLong, IsLabel, IsNamespaceId, IsText, IsInode, IsDirEntry, IsContent}
 use Rattle.nn_image.specs.Image.{labels, string_table, numbered_from, attributes_of, inode_of, is_child, children, child_ids, entry_of, dir_entries_of, content_with, content_of}
 use Rattle.nn_image.specs.Imaged.{IsImaged, AreLabelled}
 use Rattle.nn_image.proofs.ListsLemmas.{all_flat_map}

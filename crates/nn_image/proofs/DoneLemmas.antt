@@ -9,7 +9,7 @@ use Rattle.std.proofs.lemmas.List.Elements.{All-head, All-tail}
 use Rattle.nn_base.specs.Paths.{Bytes, Names, path_cmp}
 use Rattle.nn_tree.specs.declared.node.Node.{Node}
 use Rattle.nn_tree.specs.Spots.{last_name}
-use Rattle.nn_image.specs.Messages.{Inode, IsInode, DirEntry}
+use Rattle.nn_message.specs.Messages.{Inode, IsInode, DirEntry}
 use Rattle.nn_image.specs.Assembly.{Partial, Place, node_of, with_node, add_inode, add_inodes, add_root, add_all}
 use Rattle.nn_image.proofs.LaterLemmas.{entries_behind}
 use Rattle.nn_image.proofs.EmptyLemmas.{no_entries}

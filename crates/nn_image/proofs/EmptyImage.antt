@@ -4,9 +4,9 @@ use Rattle.nn_base.specs.Paths.{Bytes}
 use Rattle.nn_image.proofs.EmptyLemmas.{root_alone}
 use Rattle.nn_wire.specs.Varint.{spelled_within, varint}
 use Rattle.nn_tree.specs.Namespace.{empty_namespace, root_node, hdfs, supergroup}
-use Rattle.nn_image.specs.Messages.{Content}
-use Rattle.nn_image.specs.Spelling.{optional, ns_info, strings, string, inodes, access, directory, kind_field, inode, delimited}
-use Rattle.nn_image.specs.Frame.{Sections, sections_of, body, section_message, codec_field, sections_field, summary_message, places, lengths_of, summary_with, summary_of, end, framed}
+use Rattle.nn_message.specs.Messages.{Content}
+use Rattle.nn_message.specs.Spelling.{optional, ns_info, strings, string, inodes, access, directory, kind_field, inode, delimited}
+use Rattle.nn_message.specs.Frame.{Sections, sections_of, body, section_message, codec_field, sections_field, summary_message, places, lengths_of, summary_with, summary_of, end, framed}
 use Rattle.nn_image.specs.Image.{string_table, numbered_from, attributes_of, inode_of, child_ids, entry_of, dir_entries_of, content_with, content_of, image_of}
 
 table : string_table empty_namespace.nodes ≡ hdfs ∷ supergroup ∷ []

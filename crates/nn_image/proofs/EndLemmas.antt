@@ -7,7 +7,7 @@ use Rattle.std.proofs.lemmas.List.{nil_from_length}
 use Rattle.nn_base.specs.Paths.{Bytes}
 use Rattle.nn_tree.specs.declared.node.Block.{Block}
 use Rattle.nn_tree.specs.declared.node.Counters.{Counters}
-use Rattle.nn_image.specs.Messages.{Content, Inode}
+use Rattle.nn_message.specs.Messages.{Content, Inode}
 use Rattle.nn_image.specs.Assembly.{Level, Partial, waiting, table_of, is_table, are_given, is_whole, are_all_given, add_all, assemble, namespace_of}
 use Rattle.nn_image.specs.Building.{blocks_among, are_table}
 use Rattle.nn_image.proofs.StringTableLemmas.{same_table}

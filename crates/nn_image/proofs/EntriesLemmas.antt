@@ -6,7 +6,7 @@ use Rattle.std.specs.FinMap.{empty, entries}
 use Rattle.std.proofs.lemmas.List.Concat.{flat_map-append}
 use Rattle.nn_base.specs.Paths.{Bytes, Names, path_cmp}
 use Rattle.nn_tree.specs.declared.node.Node.{Node}
-use Rattle.nn_image.specs.Messages.{Inode, IsInode, DirEntry}
+use Rattle.nn_message.specs.Messages.{Inode, IsInode, DirEntry}
 use Rattle.nn_image.specs.Image.{entry_of}
 use Rattle.nn_image.specs.Assembly.{Owned, node_of, Level, Partial, Place, waiting, listing, with_node}
 use Rattle.nn_image.proofs.LaterLemmas.{AreBefore, same_before, entries_behind}

@@ -7,8 +7,8 @@ use Rattle.nn_base.specs.Paths.{Bytes}
 use Rattle.nn_tree.specs.Namespace.{Namespace}
 use Rattle.nn_image.specs.declared.fault.ImageFault.{ImageFault}
 use Rattle.nn_image.specs.declared.fault.ImageFault.TheVariants.{TooLarge, Magic, Short, Field, Codec, Layout, Section, Tree, Memory}
-use Rattle.nn_image.specs.Messages.{Content}
-use Rattle.nn_image.specs.Frame.{magic, end, framed, Sections, sections_of, body, Summary, IsSummary, summary_message, summary_with, summary_of, lengths_of}
+use Rattle.nn_message.specs.Messages.{Content}
+use Rattle.nn_message.specs.Frame.{magic, end, framed, Sections, sections_of, body, Summary, IsSummary, summary_message, summary_with, summary_of, lengths_of}
 use Rattle.nn_image.specs.Image.{content_of, image_of}
 use Rattle.nn_image.specs.Imaged.{IsImage}
 use Rattle.nn_image.specs.Faults.{IsSmall, IsMarked, IsFramed, HasSummary, IsPlain, HasSections, HasContent, IsFault, OneFault, NoFaultOfAnImage}

@@ -20,11 +20,11 @@ use Rattle.nn_tree.proofs.TotalsLemmas.{total-insert}
 use Rattle.nn_tree.proofs.SlotsLemmas.{total-empty}
 use Rattle.nn_image.specs.declared.noted.Noted.{Noted}
 use Rattle.nn_image.specs.declared.half.Half.{Half}
-use Rattle.nn_image.specs.declared.view.InodeView.{InodeView}
-use Rattle.nn_image.specs.declared.view.KindView.{KindView}
-use Rattle.nn_image.specs.declared.view.KindView.TheVariants as seen
-use Rattle.nn_image.specs.Messages.{Inode, DirEntry, IsInode, IsDirEntry}
-use Rattle.nn_image.specs.Views.{IsInodeView, IsKindView}
+use Rattle.nn_message.specs.declared.view.InodeView.{InodeView}
+use Rattle.nn_message.specs.declared.view.KindView.{KindView}
+use Rattle.nn_message.specs.declared.view.KindView.TheVariants as seen
+use Rattle.nn_message.specs.Messages.{Inode, DirEntry, IsInode, IsDirEntry}
+use Rattle.nn_message.specs.Views.{IsInodeView, IsKindView}
 use Rattle.nn_image.specs.Assembly.{Owned, use_names, node_of, Partial, nothing_put, listing, opened, with_node, add_root}
 use Rattle.nn_image.specs.Building.{AreOpen, entries_text, blocks_among, IsNoted, IsMade, IsHalf}
 use Rattle.nn_image.proofs.PlacedLemmas.{HasRoom, top_place, Starts, starts, starts_back}

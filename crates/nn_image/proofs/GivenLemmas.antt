@@ -11,7 +11,7 @@ use Rattle.std.proofs.lemmas.Map.Made.{distinct_count-from_IsDistinct, IsDistinc
 use Rattle.std.proofs.lemmas.List.Elements.{All-cons, All-head, All-tail, All-nil}
 use Rattle.std.proofs.lemmas.List.{length-map}
 use Rattle.nn_base.specs.Paths.{Bytes}
-use Rattle.nn_image.specs.Messages.{Text, Content}
+use Rattle.nn_message.specs.Messages.{Text, Content}
 use Rattle.nn_image.specs.Image.{numbered_from}
 use Rattle.nn_image.specs.Imaged.{AreGiven}
 use Rattle.nn_image.proofs.UsedLemmas.{itself}

@@ -10,7 +10,7 @@ use Rattle.nn_tree.specs.declared.spot.Spot.{Spot}
 use Rattle.nn_tree.specs.declared.node.Kind.{Kind}
 use Rattle.nn_tree.specs.Nodes.{is_dir}
 use Rattle.nn_image.specs.declared.open_dir.OpenDir.{OpenDir}
-use Rattle.nn_image.specs.Messages.{Inode, DirEntry, IsInode, IsLong}
+use Rattle.nn_message.specs.Messages.{Inode, DirEntry, IsInode, IsLong}
 use Rattle.nn_image.specs.Assembly.{Level, Partial, opened, add_inode, add_inodes, add_root, add_all}
 use Rattle.nn_image.specs.Building.{IsOpen, AreOpen, IsListed}
 use Rattle.nn_image.proofs.PlacedLemmas.{adds, starts}

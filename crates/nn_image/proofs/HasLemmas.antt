@@ -4,11 +4,11 @@ use Rattle.std.specs.Prelude.{codes, All, is_some}
 use Rattle.std.proofs.lemmas.List.Elements.{All-cons}
 use Rattle.nn_base.specs.Paths.{Bytes}
 use Rattle.nn_wire.specs.Field.{varint_field}
-use Rattle.nn_image.specs.declared.summary.Lengths.{Lengths}
-use Rattle.nn_image.specs.Frame.{Section, IsSection, codec_field, sections_field, Sections, Summary, IsSummary, summary_message, summary_with, summary_of, places, named, lengths_of, body, framed}
+use Rattle.nn_message.specs.declared.summary.Lengths.{Lengths}
+use Rattle.nn_message.specs.Frame.{Section, IsSection, codec_field, sections_field, Sections, Summary, IsSummary, summary_message, summary_with, summary_of, places, named, lengths_of, body, framed}
 use Rattle.nn_image.specs.Faults.{IsFramed, HasSummary, IsPlain, HasSections}
-use Rattle.nn_image.proofs.FrameLemmas.{one_frame, framed_few}
-use Rattle.nn_image.proofs.PlaceLemmas.{AreAlike, one_summary}
+use Rattle.nn_message.proofs.FrameLemmas.{one_frame, framed_few}
+use Rattle.nn_message.proofs.PlaceLemmas.{AreAlike, one_summary}
 
 pub one_framed : (bytes text other summary message : Bytes) → IsFramed bytes text summary → IsFramed bytes other message → (text ≡ other) × (summary ≡ message)
 one_framed bytes text other summary message first second = one_frame text other summary message (omega (arith, first.0, ap length first.1)) (sym first.1 ∙ second.1)

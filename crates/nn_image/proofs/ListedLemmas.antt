@@ -16,7 +16,7 @@ use Rattle.nn_tree.specs.declared.node.Node.{Node}
 use Rattle.nn_tree.specs.Nodes.{is_dir}
 use Rattle.nn_tree.specs.Namespace.{Nodes, is_dir_at}
 use Rattle.nn_tree.proofs.LinksLemmas.{paths_total, paths_exact}
-use Rattle.nn_image.specs.Messages.{Inode, DirEntry}
+use Rattle.nn_message.specs.Messages.{Inode, DirEntry}
 use Rattle.nn_image.specs.Image.{is_child, child_ids, entry_of}
 use Rattle.nn_image.specs.Assembly.{Level, Listing, waiting, is_entry_of, listing, opened}
 use Rattle.nn_image.proofs.ChildLemmas.{child_name, is_its_child}

@@ -4,14 +4,14 @@ use Rattle.std.specs.Prelude.{All, Option, Some, None, ◌==◌, ◌&&◌, nat_l
 use Rattle.std.proofs.lemmas.Bool.Decides.{nat_tests}
 use Rattle.nn_base.specs.Paths.{Bytes}
 use Rattle.nn_tree.specs.Nodes.{is_dir}
-use Rattle.nn_image.specs.Messages.{Inode, DirEntry, IsDirEntry}
+use Rattle.nn_message.specs.Messages.{Inode, DirEntry, IsDirEntry}
 use Rattle.nn_image.specs.Assembly.{Listing, listing, is_entry_of}
 use Rattle.nn_image.specs.Building.{entries_text, IsListed}
-use Rattle.nn_image.specs.Spelling.{delimited, dir_entry}
+use Rattle.nn_message.specs.Spelling.{delimited, dir_entry}
 use Rattle.nn_image.proofs.OpenDirLemmas.{and_no, ids_none}
 use Rattle.nn_image.proofs.TakingLemmas.{TakesFirst, none_left, delimited_some}
-use Rattle.nn_image.specs.declared.view.DirView.{DirView}
-use Rattle.nn_image.specs.Views.{IsDirView}
+use Rattle.nn_message.specs.declared.view.DirView.{DirView}
+use Rattle.nn_message.specs.Views.{IsDirView}
 use Rattle.std.proofs.lemmas.Option.{same_Some}
 use Rattle.nn_wire.specs.Varint.{varint}
 use Rattle.std.specs.List.{flat_map}

@@ -3,9 +3,9 @@ use Rattle.std.proofs.Common.{◌≡◌, ◌≢◌, ℕ, None, Some, sym, ap, su
 use Rattle.nn_base.specs.Paths.{Bytes}
 use Rattle.nn_tree.specs.Namespace.{Namespace}
 use Rattle.nn_image.specs.declared.fault.ImageFault.TheVariants.{Field, Tree}
-use Rattle.nn_image.specs.Messages.{Content, IsContent}
-use Rattle.nn_image.specs.Frame.{Sections, sections_of, body, summary_message, summary_with, summary_of, framed}
-use Rattle.nn_image.specs.Spelling.{delimited, ns_info}
+use Rattle.nn_message.specs.Messages.{Content, IsContent}
+use Rattle.nn_message.specs.Frame.{Sections, sections_of, body, summary_message, summary_with, summary_of, framed}
+use Rattle.nn_message.specs.Spelling.{delimited, ns_info}
 use Rattle.nn_image.specs.Image.{content_of, image_of}
 use Rattle.nn_image.specs.Imaged.{IsImage}
 use Rattle.nn_image.specs.Assembly.{assemble}
@@ -13,7 +13,7 @@ use Rattle.nn_image.specs.Faults.{HasSections, HasContent, IsFault, OneImage}
 use Rattle.nn_image.proofs.FirstFaultLemmas.{image_whole}
 use Rattle.nn_image.proofs.HasLemmas.{framed_short}
 use Rattle.nn_image.proofs.OneImageLemmas.{one_sections}
-use Rattle.nn_image.proofs.SpelledContentLemmas.{content_apart}
+use Rattle.nn_message.proofs.SpelledContentLemmas.{content_apart}
 use Rattle.nn_image.proofs.CompleteAssembly.{one_namespace, none_saved}
 use Rattle.nn_image.proofs.SoundAssembly.{assemble_sound}
 

@@ -9,7 +9,7 @@ use Rattle.nn_tree.specs.declared.node.Kind.{Kind}
 use Rattle.nn_tree.specs.Nodes.{blocks_of}
 use Rattle.nn_tree.specs.Namespace.{Nodes, node_count, block_count}
 use Rattle.nn_image.specs.declared.open_dir.OpenDir.{OpenDir}
-use Rattle.nn_image.specs.Messages.{Inode}
+use Rattle.nn_message.specs.Messages.{Inode}
 use Rattle.nn_image.specs.Assembly.{Owned, use_names, Level, Place, Partial, waiting, placed, has_room, with_node, put_node, add_inode}
 use Rattle.nn_image.specs.Building.{IsOpen, AreOpen}
 use Rattle.nn_image.proofs.PlacedLemmas.{IsPlaced, placed_so, HasRoom, room_so, room_back}

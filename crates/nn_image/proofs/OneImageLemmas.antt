@@ -2,9 +2,9 @@
 use Rattle.std.proofs.Common.{◌≡◌, ℕ, ◌+◌, ◌^◌, ◌<◌, [], ◌∷◌, length, refl, sym, arith}
 use Rattle.std.specs.Prelude.{codes}
 use Rattle.nn_base.specs.Paths.{Bytes}
-use Rattle.nn_image.specs.Frame.{sections_field, Sections, summary_message, summary_with, summary_of, places, named, lengths_of, body}
+use Rattle.nn_message.specs.Frame.{sections_field, Sections, summary_message, summary_with, summary_of, places, named, lengths_of, body}
 use Rattle.nn_image.specs.Faults.{HasSections}
-use Rattle.nn_image.proofs.SectionLemmas.{Parts, Fills, four, four_fill, part_taken, first_text, first_place, parts_text, parts_places}
+use Rattle.nn_message.proofs.SectionLemmas.{Parts, Fills, four, four_fill, part_taken, first_text, first_place, parts_text, parts_places}
 use Rattle.nn_image.proofs.HasLemmas.{framed_short, one_has, places_few}
 
 -- parts of the same texts, by the same names

@@ -12,7 +12,7 @@ use Rattle.nn_wire.specs.Varint.{varint, Begins}
 use Rattle.nn_wire.proofs.SpellingLemmas.{varint_some, same_varint}
 use Rattle.nn_tree.specs.declared.spot.Spot.{Spot}
 use Rattle.nn_image.specs.declared.open_dir.OpenDir.{OpenDir}
-use Rattle.nn_image.specs.Messages.{IsLong, Inode}
+use Rattle.nn_message.specs.Messages.{IsLong, Inode}
 use Rattle.nn_image.specs.Assembly.{Level, Place, waiting, placed, is_next}
 use Rattle.nn_image.specs.Building.{IsOpen, AreOpen}
 

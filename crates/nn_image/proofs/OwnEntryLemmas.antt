@@ -11,7 +11,7 @@ use Rattle.nn_tree.specs.declared.node.Node.{Node}
 use Rattle.nn_tree.specs.Nodes.{is_dir, blocks_of}
 use Rattle.nn_tree.specs.Namespace.{Nodes, IsNamespace}
 use Rattle.nn_tree.specs.Limits.{IsWithinLimits}
-use Rattle.nn_image.specs.Messages.{Inode, DirEntry}
+use Rattle.nn_message.specs.Messages.{Inode, DirEntry}
 use Rattle.nn_image.specs.Image.{children, child_ids, entry_of}
 use Rattle.nn_image.specs.Assembly.{is_entry_of, listing}
 use Rattle.nn_image.proofs.ChildLemmas.{child_at, child_name}

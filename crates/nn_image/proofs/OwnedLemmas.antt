@@ -16,8 +16,8 @@ use Rattle.nn_tree.specs.Spots.{last_name}
 use Rattle.nn_tree.specs.Namespace.{Nodes}
 use Rattle.nn_tree.proofs.LinksLemmas.{paths_total, paths_exact}
 use Rattle.nn_tree.proofs.SortedLemmas.{found_at}
-use Rattle.nn_image.specs.declared.message.Attributes.{Attributes}
-use Rattle.nn_image.specs.Messages.{Inode, IsLabel}
+use Rattle.nn_message.specs.declared.message.Attributes.{Attributes}
+use Rattle.nn_message.specs.Messages.{Inode, IsLabel}
 use Rattle.nn_image.specs.Image.{labels, attributes_of, inode_of}
 use Rattle.nn_image.specs.Imaged.{AreLabelled}
 use Rattle.nn_image.specs.Assembly.{Owned, use_name, use_group, use_names, node_of}

@@ -14,7 +14,7 @@ use Rattle.nn_tree.specs.Namespace.{Nodes, IsNamespace, is_dir_at}
 use Rattle.nn_tree.specs.Limits.{IsNode, IsWithinLimits}
 use Rattle.nn_tree.proofs.LimitsLemmas.{limits_insert}
 use Rattle.nn_tree.proofs.SlotsLemmas.{total-empty}
-use Rattle.nn_image.specs.Messages.{Inode, IsInode, DirEntry}
+use Rattle.nn_message.specs.Messages.{Inode, IsInode, DirEntry}
 use Rattle.nn_image.specs.Assembly.{Owned, node_of, Level, Partial, Place, waiting, listing, opened, with_node}
 use Rattle.nn_image.proofs.LaterLemmas.{AreBefore, none_before, before_more, before_later, free_behind, entries_behind}
 use Rattle.nn_image.proofs.EmptyLemmas.{no_entries}

@@ -10,7 +10,7 @@ use Rattle.nn_tree.specs.declared.node.Kind.{Kind}
 use Rattle.nn_tree.specs.Nodes.{is_dir, blocks_of}
 use Rattle.nn_tree.specs.Namespace.{Nodes, node_count, block_count}
 use Rattle.nn_tree.proofs.LeastLemmas.{less_than}
-use Rattle.nn_image.specs.Messages.{Inode, DirEntry}
+use Rattle.nn_message.specs.Messages.{Inode, DirEntry}
 use Rattle.nn_image.specs.Assembly.{Owned, use_names, Level, Partial, nothing_put, Place, waiting, is_next, placed, has_room, with_node, put_node, add_inode, is_root, add_root}
 
 -- ---- the place of the next node

@@ -19,7 +19,7 @@ use Rattle.nn_tree.proofs.TotalsLemmas.{total-insert}
 use Rattle.nn_image.specs.declared.open_dir.OpenDir.{OpenDir}
 use Rattle.nn_image.specs.declared.prepared.Prepared.{Prepared}
 use Rattle.nn_image.specs.declared.half.Half.{Half}
-use Rattle.nn_image.specs.Messages.{Inode, DirEntry, IsInode, IsDirEntry}
+use Rattle.nn_message.specs.Messages.{Inode, DirEntry, IsInode, IsDirEntry}
 use Rattle.nn_image.specs.Assembly.{Owned, node_of, Level, Place, Partial, waiting, listing, opened, with_node, add_inode}
 use Rattle.nn_image.specs.Building.{IsOpen, AreOpen, entries_text, blocks_among, IsNoted, IsPrepared, IsMade, IsHalf}
 use Rattle.nn_image.proofs.NewNodeLemmas.{one_split}

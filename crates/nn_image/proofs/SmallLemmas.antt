@@ -3,12 +3,12 @@ use Rattle.std.proofs.Common.{◌≡◌, ℕ, ◌+◌, ◌++◌, length, sym, su
 use Rattle.std.specs.Int.{w32, to_be_bytes}
 use Rattle.nn_base.specs.Paths.{Bytes}
 use Rattle.nn_tree.specs.Namespace.{Namespace}
-use Rattle.nn_image.specs.Spelling.{delimited}
-use Rattle.nn_image.specs.Frame.{magic, Sections, sections_of, body, summary_message, summary_of, lengths_of, end, framed}
+use Rattle.nn_message.specs.Spelling.{delimited}
+use Rattle.nn_message.specs.Frame.{magic, Sections, sections_of, body, summary_message, summary_of, lengths_of, end, framed}
 use Rattle.nn_image.specs.Image.{string_table, content_with, content_of, image_of}
 use Rattle.nn_image.specs.Imaged.{IsImaged, AreLabelled, IsImage}
 use Rattle.nn_image.specs.Faults.{IsSmall}
-use Rattle.nn_image.proofs.SummaryLemmas.{summary_few}
+use Rattle.nn_message.proofs.SummaryLemmas.{summary_few}
 use Rattle.nn_image.proofs.CollectLemmas.{few_nodes}
 use Rattle.nn_image.proofs.ContentLemmas.{table_labelled, table_few}
 use Rattle.nn_image.proofs.ModestLemmas.{sections_few}

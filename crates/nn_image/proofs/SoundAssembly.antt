@@ -12,7 +12,7 @@ use Rattle.nn_tree.specs.declared.node.Block.{Block}
 use Rattle.nn_tree.specs.declared.node.Node.{Node}
 use Rattle.nn_tree.specs.Nodes.{blocks_of}
 use Rattle.nn_tree.specs.Namespace.{Namespace}
-use Rattle.nn_image.specs.Messages.{Content, IsContent, Inode, IsLabel}
+use Rattle.nn_message.specs.Messages.{Content, IsContent, Inode, IsLabel}
 use Rattle.nn_image.specs.Image.{string_table, inode_of, child_ids, entry_of, dir_entries_of, numbered_from, content_with, content_of}
 use Rattle.nn_image.specs.Imaged.{IsImaged, AreLabelled, AreGiven, blocks_in}
 use Rattle.nn_image.specs.Assembly.{Partial, table_of, waiting, is_table, are_given, all_blocks, are_all_given, is_whole, namespace_of, finished, add_all, assemble}

@@ -11,10 +11,10 @@ use Rattle.nn_tree.specs.declared.node.Node.{Node}
 use Rattle.nn_tree.specs.declared.spot.Spot.{Spot}
 use Rattle.nn_tree.specs.Below.{entries_below, visited, count_before, IsNextBelow}
 use Rattle.nn_tree.proofs.BelowLemmas.{entry_of, none_visited, one_more}
-use Rattle.nn_image.specs.Messages.{Text}
+use Rattle.nn_message.specs.Messages.{Text}
 use Rattle.std.proofs.lemmas.Bool.{cases_lt}
 use Rattle.std.proofs.Math.ListN.{drop_of_length-le}
-use Rattle.nn_image.specs.Spelling.{string, delimited}
+use Rattle.nn_message.specs.Spelling.{string, delimited}
 use Rattle.nn_image.specs.Image.{numbered_from}
 use Rattle.nn_image.specs.Saving.{Target, IsTarget, strings_from, ahead}
 use Rattle.nn_image.proofs.ListsLemmas.{drop_at, filter_all}

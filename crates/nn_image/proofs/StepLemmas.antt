@@ -12,9 +12,9 @@ use Rattle.nn_tree.proofs.BelowLemmas.{stays_below}
 use Rattle.nn_image.specs.declared.task.Stage.{Stage}
 use Rattle.nn_image.specs.declared.task.Stage.TheVariants.{Front, Strings, Inodes, Directories, Done}
 use Rattle.nn_image.specs.declared.task.Progress.{Progress}
-use Rattle.nn_image.specs.declared.summary.Lengths.{Lengths}
-use Rattle.nn_image.specs.Spelling.{ns_info, string, inodes, inode, dir_entry, delimited}
-use Rattle.nn_image.specs.Frame.{magic, sections_of, body, lengths_of, summary_message, summary_with, end}
+use Rattle.nn_message.specs.declared.summary.Lengths.{Lengths}
+use Rattle.nn_message.specs.Spelling.{ns_info, string, inodes, inode, dir_entry, delimited}
+use Rattle.nn_message.specs.Frame.{magic, sections_of, body, lengths_of, summary_message, summary_with, end}
 use Rattle.nn_image.specs.Image.{inode_of, child_ids, dir_entries_of, entry_of, content_with}
 use Rattle.nn_image.specs.Saving.{Target, IsTarget, info_head, strings_head, inodes_head, whole, end_of, strings_from, inodes_from, entry_text, directories_from, rest, IsStage, AreCounted, Advances, steps}
 use Rattle.nn_image.proofs.ListsLemmas.{flat_map-map, flat_map-flat_map, front_joined, head_joined, next_joined}

@@ -8,7 +8,7 @@ use Rattle.std.proofs.lemmas.List.{length-map}
 use Rattle.std.proofs.lemmas.Map.Keys.{IsDistinct-head, IsDistinct-tail, IsDistinct-push}
 use Rattle.nn_base.specs.Paths.{Bytes}
 use Rattle.nn_strtab.specs.Numbers.{number_in, with_use}
-use Rattle.nn_image.specs.Messages.{Text, Content}
+use Rattle.nn_message.specs.Messages.{Text, Content}
 use Rattle.nn_image.specs.Assembly.{are_distinct, are_numbered, table_of, is_table}
 use Rattle.nn_image.specs.Building.{are_table}
 use Rattle.nn_image.proofs.GivenLemmas.{bytes_equiv, distinct_so, distinct_back}

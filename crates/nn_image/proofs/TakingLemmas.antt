@@ -10,8 +10,8 @@ use Rattle.nn_base.specs.Paths.{Bytes}
 use Rattle.nn_wire.proofs.SpellingLemmas.{varint_some}
 use Rattle.nn_wire.specs.Varint.{varint}
 use Rattle.nn_wire.specs.Field.{bytes_field}
-use Rattle.nn_image.specs.Spelling.{delimited}
-use Rattle.nn_image.specs.Reading.{Takes}
+use Rattle.nn_message.specs.Spelling.{delimited}
+use Rattle.nn_message.specs.Reading.{Takes}
 
 -- the first of the messages, a view of it, and the others
 pub record TakesFirst {V X : Type 0} (IsView : V → X → Type 0) (Is : X → Type 0) (text : X → Bytes) (xs : List X) (result : Option V) (new : Bytes) : Type 0 where

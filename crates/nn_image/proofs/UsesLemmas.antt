@@ -18,7 +18,7 @@ use Rattle.nn_tree.specs.Below.{count_before}
 use Rattle.nn_tree.proofs.BelowLemmas.{entry_of}
 use Rattle.nn_image.specs.Image.{labels, string_table}
 use Rattle.nn_image.specs.Imaged.{AreLabelled}
-use Rattle.nn_image.specs.Messages.{IsLabel}
+use Rattle.nn_message.specs.Messages.{IsLabel}
 use Rattle.nn_image.proofs.ListsLemmas.{filter_all}
 
 has : List Bytes → Bytes → Bool

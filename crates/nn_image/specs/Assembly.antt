@@ -11,8 +11,8 @@ use Rattle.nn_tree.specs.declared.node.Kind.{Kind}
 use Rattle.nn_tree.specs.declared.node.Node.{Node}
 use Rattle.nn_tree.specs.Nodes.{is_dir, blocks_of}
 use Rattle.nn_tree.specs.Namespace.{Namespace, Nodes, node_count, block_count}
-use Rattle.nn_image.specs.declared.message.Attributes.{Attributes}
-use Rattle.nn_image.specs.Messages.{Text, Inode, DirEntry, Content}
+use Rattle.nn_message.specs.declared.message.Attributes.{Attributes}
+use Rattle.nn_message.specs.Messages.{Text, Inode, DirEntry, Content}
 
 abbrev pub are_distinct : {A : Type 0} → (A → A → Bool) → List A → Bool
 are_distinct eq xs = distinct_count eq xs == length xs

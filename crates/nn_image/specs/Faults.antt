@@ -4,8 +4,8 @@ use Rattle.nn_base.specs.Paths.{Bytes}
 use Rattle.nn_tree.specs.Namespace.{Namespace}
 use Rattle.nn_image.specs.declared.fault.ImageFault.{ImageFault}
 use Rattle.nn_image.specs.declared.fault.ImageFault.TheVariants.{TooLarge, Magic, Short, Field, Codec, Layout, Section, Tree, Memory}
-use Rattle.nn_image.specs.Messages.{Content, IsContent}
-use Rattle.nn_image.specs.Frame.{magic, Sections, sections_of, body, Summary, IsSummary, summary_message, summary_of, framed}
+use Rattle.nn_message.specs.Messages.{Content, IsContent}
+use Rattle.nn_message.specs.Frame.{magic, Sections, sections_of, body, Summary, IsSummary, summary_message, summary_of, framed}
 use Rattle.nn_image.specs.Imaged.{IsImage}
 
 -- ---- how far bytes are an image: each word holds of less than the one before it

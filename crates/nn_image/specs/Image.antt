@@ -7,9 +7,9 @@ use Rattle.nn_strtab.specs.Numbers.{number_in, first_uses}
 use Rattle.nn_tree.specs.declared.node.Node.{Node}
 use Rattle.nn_tree.specs.Namespace.{Namespace, Nodes}
 use Rattle.nn_tree.specs.Spots.{last_name}
-use Rattle.nn_image.specs.declared.message.Attributes.{Attributes}
-use Rattle.nn_image.specs.Messages.{Text, Inode, DirEntry, Content}
-use Rattle.nn_image.specs.Frame.{sections_of, body, summary_of, summary_message, framed}
+use Rattle.nn_message.specs.declared.message.Attributes.{Attributes}
+use Rattle.nn_message.specs.Messages.{Text, Inode, DirEntry, Content}
+use Rattle.nn_message.specs.Frame.{sections_of, body, summary_of, summary_message, framed}
 
 -- ---- names of owners and groups, in the order of their first use over the paths, the owner before the group
 

@@ -8,7 +8,7 @@ use Rattle.nn_tree.specs.declared.node.Node.{Node}
 use Rattle.nn_tree.specs.Nodes.{blocks_of, quota_of}
 use Rattle.nn_tree.specs.Namespace.{Namespace, Nodes, IsNamespace}
 use Rattle.nn_tree.specs.Limits.{IsWithinLimits, IsCounters}
-use Rattle.nn_image.specs.Messages.{IsLong, IsLabel, IsNamespaceId, IsVarintNumber}
+use Rattle.nn_message.specs.Messages.{IsLong, IsLabel, IsNamespaceId, IsVarintNumber}
 use Rattle.nn_image.specs.Image.{image_of}
 
 -- the blocks of all files

@@ -1,13 +1,6 @@
-pub mod Messages
-pub mod Spelling
-pub mod Frame
-pub mod FrameViews
 pub mod Image
 pub mod Imaged
 pub mod Assembly
 pub mod Faults
-pub mod Reading
-pub mod MessageReading
-pub mod Views
 pub mod Saving
 pub mod Building

@@ -13,9 +13,9 @@ use Rattle.nn_image.specs.declared.task.Stage.{Stage}
 use Rattle.nn_image.specs.declared.task.Stage.TheVariants.{Front, Strings, Inodes, Directories, Done}
 use Rattle.nn_image.specs.declared.saver.Saver.{Saver}
 use Rattle.nn_image.specs.declared.task.Progress.{Progress}
-use Rattle.nn_image.specs.declared.summary.Lengths.{Lengths}
-use Rattle.nn_image.specs.Spelling.{ns_info, strings, string, inodes, inode, dir_entry, delimited}
-use Rattle.nn_image.specs.Frame.{magic, Sections, sections_of, body, summary_message, summary_of, end}
+use Rattle.nn_message.specs.declared.summary.Lengths.{Lengths}
+use Rattle.nn_message.specs.Spelling.{ns_info, strings, string, inodes, inode, dir_entry, delimited}
+use Rattle.nn_message.specs.Frame.{magic, Sections, sections_of, body, summary_message, summary_of, end}
 use Rattle.nn_image.specs.Image.{string_table, numbered_from, inode_of, is_child, children, child_ids, entry_of, content_with}
 use Rattle.nn_image.specs.Imaged.{IsImaged}
 

@@ -5,9 +5,9 @@ ghost use Rattle.nn_image.specs.Saving.{target, IsTarget, IsStage, AreCounted, A
 
 use crate::directory::write_directory;
 use crate::step::{write_front, write_inode, write_inodes_head, write_string};
-use crate::summary::{Lengths, put_end};
 use crate::task::{Progress, Stage, Task};
 use nn_base::NoMemory;
+use nn_message::{Lengths, put_end};
 use nn_strtab::Names;
 use nn_tree::{Tree, next_below};
 

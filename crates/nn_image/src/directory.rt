@@ -4,12 +4,12 @@ ghost use Rattle.std.specs.List.{flat_map};
 ghost use Rattle.std.specs.FinMap as map;
 ghost use Rattle.nn_tree.specs.declared.node.Node.{Node};
 ghost use Rattle.nn_wire.specs.Varint.{varint};
-ghost use Rattle.nn_image.specs.Spelling.{delimited, dir_entry};
+ghost use Rattle.nn_message.specs.Spelling.{delimited, dir_entry};
 ghost use Rattle.nn_image.specs.Image.{child_ids};
 ghost use Rattle.nn_image.specs.Saving.{entry_text};
 
-use crate::field::{delimit, put_key, put_number};
 use nn_base::NoMemory;
+use nn_message::{delimit, put_key, put_number};
 use nn_tree::{Spot, Tree};
 use nn_wire::varint_put;
 
@@ -28,7 +28,7 @@ fn put_children<T: Tree>(tree: &T, at: Spot, out: &mut Vec<u8>) -> Result<(), No
     Ok(())
 }
 
-#[tactic(auto, using(crate::proofs::PutLemmas::closed))]
+#[tactic(auto, using(nn_message::proofs::PutLemmas::closed))]
 fn put_ids<T: Tree>(tree: &T, at: Spot, out: &mut Vec<u8>) -> Result<(), NoMemory>
     requires { T.has tree.now at ≡ true }
     ensures ok { OnOk result (out.new.items ≡ out.old.items ++ delimited
@@ -39,7 +39,7 @@ fn put_ids<T: Tree>(tree: &T, at: Spot, out: &mut Vec<u8>) -> Result<(), NoMemor
     delimit(start, out)
 }
 
-#[tactic(auto, using(crate::proofs::PutLemmas::closed), unfolding(crate::specs::Spelling::dir_entry, crate::specs::Spelling::delimited))]
+#[tactic(auto, using(nn_message::proofs::PutLemmas::closed), unfolding(nn_message::specs::Spelling::dir_entry, nn_message::specs::Spelling::delimited))]
 fn put_entry<T: Tree>(tree: &T, at: Spot, parent: u64, out: &mut Vec<u8>) -> Result<(), NoMemory>
     requires { T.has tree.now at ≡ true }
     ensures ok { OnOk result (out.new.items ≡ out.old.items ++ delimited (dir_entry (record {

@@ -1,4 +1,4 @@
-//! Images of the namespace, in the spelling of HDFS's `fsimage.proto`: what `save` begins and `Saver::next` gives, piece by piece, is the one image of a namespace.
+//! Images of the namespace, in the messages of HDFS's `fsimage.proto`: what `save` begins and `Saver::next` gives, piece by piece, is the one image of a namespace.
 //! What `load` reads is that image, or the first fault of the bytes.
 //! It knows nothing of files, digests or folders, nor of how a namespace changes.
 #![tactic(auto)]
@@ -7,31 +7,24 @@ mod advance;
 mod assemble;
 mod directory;
 mod fault;
-mod field;
 mod frame;
 mod given;
 mod half;
-mod inode;
 mod listing;
 mod loading;
-mod message;
 mod node;
 mod nodes;
 mod noted;
 mod open_dir;
 mod owners;
-mod places;
 mod prepared;
-mod reading;
 mod saver;
 mod sections;
 mod seed;
 mod step;
 mod string_table;
-mod summary;
 mod task;
 mod unmade;
-mod view;
 
 pub use fault::ImageFault;
 pub use loading::{Loaded, load};

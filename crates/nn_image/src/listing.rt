@@ -4,12 +4,12 @@ ghost use Rattle.std.specs.List.{flat_map};
 ghost use Rattle.std.specs.Borrow.{Bor};
 ghost use Rattle.nn_wire.specs.Varint.{varint};
 ghost use Rattle.nn_tree.specs.Nodes as nodes;
-ghost use Rattle.nn_image.specs.Messages.{Inode, DirEntry, IsLong, IsDirEntry};
-ghost use Rattle.nn_image.specs.Spelling.{delimited, dir_entry};
+ghost use Rattle.nn_message.specs.Messages.{Inode, DirEntry, IsLong, IsDirEntry};
+ghost use Rattle.nn_message.specs.Spelling.{delimited, dir_entry};
 ghost use Rattle.nn_image.specs.Assembly.{listing};
 ghost use Rattle.nn_image.specs.Building.{entries_text, IsListing};
 
-use crate::reading::take_dir_entry;
+use nn_message::take_dir_entry;
 
 /// The ids of a node's children. The next entry is the node's own, or it has no children.
 pub(crate) fn take_listing<'a>(

@@ -1,20 +1,19 @@
 // An image as it is read.
 ghost use Rattle.std.specs.Prelude.{◌≡◌, ◌≢◌, IfOk, IfErr, IfSome, IfNone, unsigned_abs};
-ghost use Rattle.nn_image.specs.Messages.{Content, IsContent};
-ghost use Rattle.nn_image.specs.Frame.{sections_of};
-ghost use Rattle.nn_image.specs.FrameViews.{sections_seen};
-ghost use Rattle.nn_image.specs.Views.{info_of};
+ghost use Rattle.nn_message.specs.Messages.{Content, IsContent};
+ghost use Rattle.nn_message.specs.Frame.{sections_of};
+ghost use Rattle.nn_message.specs.FrameViews.{sections_seen};
+ghost use Rattle.nn_message.specs.Views.{info_of};
 ghost use Rattle.nn_image.specs.Imaged.{IsImage};
 ghost use Rattle.nn_image.specs.Faults.{IsFault, OneFault, NoFaultOfAnImage, OneImage};
 
 use crate::assemble::assemble_tree;
 use crate::fault::ImageFault;
-use crate::reading::{check_messages, read_ns_info};
 use crate::saver::magnitude;
-use crate::sections::{SectionBytes, sections_in};
+use crate::sections::sections_in;
 use crate::unmade::Unmade;
-use crate::view::InfoView;
 use nn_base::Txid;
+use nn_message::{InfoView, SectionBytes, check_messages, read_ns_info};
 use nn_tree::Tree;
 use std::alloc::Global;
 

@@ -3,15 +3,14 @@ ghost use Rattle.std.specs.Prelude.{◌≡◌, ◌≢◌, List, All, IfOk, Err};
 ghost use Rattle.nn_tree.specs.declared.node.Block.{Block};
 ghost use Rattle.nn_tree.specs.Limits.{IsBlock};
 ghost use Rattle.nn_image.specs.declared.unmade.Unmade.TheVariants.{Tree};
-ghost use Rattle.nn_image.specs.Messages.{Inode, IsInode};
-ghost use Rattle.nn_image.specs.Spelling.{blocks_field};
-ghost use Rattle.nn_image.specs.Views.{IsInodeView};
+ghost use Rattle.nn_message.specs.Messages.{Inode, IsInode};
+ghost use Rattle.nn_message.specs.Spelling.{blocks_field};
+ghost use Rattle.nn_message.specs.Views.{IsInodeView};
 ghost use Rattle.nn_image.specs.Assembly.{node_of};
 
 use crate::owners::Owners;
-use crate::reading::take_block;
 use crate::unmade::Unmade;
-use crate::view::{InodeView, KindView};
+use nn_message::{InodeView, KindView, take_block};
 use nn_tree::{Blocks, Kind, Node};
 use std::alloc::Global;
 

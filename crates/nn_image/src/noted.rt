@@ -2,7 +2,7 @@
 ghost use Rattle.std.specs.Prelude.{◌≡◌, ℕ, ◌++◌, ◌&&◌, [], ◌∷◌, List, map, nat_le, OnOk};
 ghost use Rattle.std.specs.List.{list_all};
 ghost use Rattle.nn_tree.specs.Nodes.{blocks_of};
-ghost use Rattle.nn_image.specs.Messages.{Inode};
+ghost use Rattle.nn_message.specs.Messages.{Inode};
 ghost use Rattle.nn_image.specs.Building.{IsNoted};
 
 use nn_base::NoMemory;

@@ -4,7 +4,7 @@ ghost use Rattle.std.specs.Ordering.{is_lt};
 ghost use Rattle.nn_base.specs.Paths.{Names, is_name, name_cmp};
 ghost use Rattle.nn_tree.specs.declared.spot.Spot.{Spot};
 ghost use Rattle.nn_image.specs.Assembly.{Level, waiting, placed};
-ghost use Rattle.nn_image.specs.Messages.{Inode};
+ghost use Rattle.nn_message.specs.Messages.{Inode};
 ghost use Rattle.nn_image.specs.Building.{IsOpen, AreOpen};
 
 use nn_tree::Spot;

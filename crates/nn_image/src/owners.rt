@@ -1,10 +1,10 @@
 // The owner and the group of a node of an image, by their numbers.
 ghost use Rattle.std.specs.Prelude.{◌≡◌, Some, None, All, MatchOption};
-ghost use Rattle.nn_image.specs.Messages.{IsLabel};
+ghost use Rattle.nn_message.specs.Messages.{IsLabel};
 ghost use Rattle.nn_image.specs.Assembly.{use_name, use_names};
 
-use crate::message::Attributes;
 use nn_base::Label;
+use nn_message::Attributes;
 use nn_strtab::Names;
 
 /// Who a node belongs to, and how many names of the string table are used with these two.

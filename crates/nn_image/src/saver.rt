@@ -5,14 +5,14 @@ ghost use Rattle.nn_image.specs.declared.task.Stage.TheVariants.{Done};
 ghost use Rattle.nn_image.specs.Imaged.{IsImaged, AreLabelled};
 ghost use Rattle.nn_image.specs.Faults.{IsSmall};
 ghost use Rattle.nn_image.specs.Image.{image_of, string_table};
-ghost use Rattle.nn_image.specs.Messages.{IsLabel};
+ghost use Rattle.nn_message.specs.Messages.{IsLabel};
 ghost use Rattle.std.specs.FinMap as map;
 ghost use Rattle.nn_image.specs.Saving.{Saves, left, ungiven, target_of, rest, steps};
 
 use crate::advance::advance;
-use crate::summary::Lengths;
 use crate::task::{Progress, Stage, Task};
 use nn_base::{NoMemory, Path, Txid};
+use nn_message::Lengths;
 use nn_strtab::Names;
 use nn_tree::{Spot, Tree, Walk, next_below};
 use std::alloc::Global;

@@ -7,10 +7,10 @@ ghost use Rattle.nn_tree.specs.Limits.{IsNode};
 ghost use Rattle.nn_tree.specs.Nodes.{is_dir};
 ghost use Rattle.nn_tree.specs.Changes.{changed, takes_change};
 
-use crate::message::Attributes;
 use crate::owners::Owners;
 use crate::saver::root_of;
 use nn_base::NoMemory;
+use nn_message::Attributes;
 use nn_quota::Quota;
 use nn_tree::{Change, Spot, Tree};
 use std::alloc::Global;

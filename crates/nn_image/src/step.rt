@@ -4,16 +4,16 @@ ghost use Rattle.std.specs.FinMap as map;
 ghost use Rattle.nn_strtab.specs.Numbers.{name_at, with_use};
 ghost use Rattle.nn_tree.specs.declared.node.Node.{Node};
 ghost use Rattle.nn_image.specs.declared.task.Stage.TheVariants.{Strings, Inodes};
-ghost use Rattle.nn_image.specs.Spelling.{delimited, string, inode};
-ghost use Rattle.nn_image.specs.Frame.{magic};
+ghost use Rattle.nn_message.specs.Spelling.{delimited, string, inode};
+ghost use Rattle.nn_message.specs.Frame.{magic};
 ghost use Rattle.nn_image.specs.Image.{inode_of};
 ghost use Rattle.nn_image.specs.Saving.{info_head, strings_head, inodes_head};
 
-use crate::inode::put_inode;
-use crate::message::{Attributes, put_inodes, put_ns_info, put_string, put_strings};
-use crate::summary::Lengths;
 use crate::task::{Progress, Stage, Task};
 use nn_base::NoMemory;
+use nn_message::{
+    Attributes, Lengths, put_inode, put_inodes, put_ns_info, put_string, put_strings,
+};
 use nn_strtab::Names;
 use nn_tree::{Spot, Tree};
 

@@ -2,11 +2,11 @@
 ghost use Rattle.std.specs.Prelude.{◌≡◌, ◌≢◌, ◌+◌, ◌⊎◌, List, [], ◌∷◌, ◌++◌, length, All, Err, IfOk, OnOk, true, false, map, bytes_eq};
 ghost use Rattle.std.specs.List.{list_any};
 ghost use Rattle.nn_image.specs.declared.unmade.Unmade.TheVariants as unmade;
-ghost use Rattle.nn_image.specs.Messages.{Text, IsText, IsLabel};
+ghost use Rattle.nn_message.specs.Messages.{Text, IsText, IsLabel};
 ghost use Rattle.nn_image.specs.Building.{texts_text, are_table};
 
-use crate::reading::take_string;
 use crate::unmade::Unmade;
+use nn_message::take_string;
 use nn_strtab::Names;
 use std::alloc::Global;
 

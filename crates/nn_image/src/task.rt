@@ -1,6 +1,6 @@
 // What is saved, and how far it is.
-use crate::summary::Lengths;
 use nn_base::Txid;
+use nn_message::Lengths;
 use nn_tree::{Counters, Spot};
 
 /// What an image says of itself and of its namespace, and where the walk over the tree begins.

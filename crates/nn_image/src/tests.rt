@@ -1,5 +1,4 @@
 use super::*;
-use crate::reading::check_messages;
 use nn_base::{NoMemory, Path, Txid};
 use nn_tree::{PlainTree, Tree, Walk};
 use std::alloc::Global;
@@ -209,44 +208,4 @@ fn a_changed_image_has_a_fault_or_is_another_image(rt: HostRuntime) -> Result<()
         assert_eq!(rt; fault_with(alloc, TWELVE, place, value)?, Some(fault));
     }
     Ok(())
-}
-
-// NS_INFO and STRING_TABLE of the image above.
-const INFO: &[u8] = b"\x0d\x08\x07\x18\xe8\x07\x28\x80\x80\x80\x80\x04\x30\x00";
-
-const STRINGS: &[u8] = b"\x02\x08\x02\x08\x08\x01\x12\x04hdfs\x0e\x08\x02\x12\x0asupergroup";
-
-// The head of INODE and an open file with a block, by hand after HDFS's `fsimage.proto`.
-const FILE: [u8; 45] = *b"\x06\x08\x82\x80\x01\x10\x02\
-\x25\x08\x01\x10\x82\x80\x01\x1a\x01a\
-\x22\x1a\x08\x03\x10\x00\x18\x01\x20\x02\x28\xa4\x03\
-\x32\x0b\x08\x81\x80\x80\x80\x04\x10\xe9\x07\x18\x01\
-\x38\x01";
-
-#[test]
-fn a_file_is_read_and_none_with_a_fault_in_it(rt: HostRuntime) {
-    let cases = [
-        (20, 3, true, "as it is"),
-        (29, 7, true, "a mode of 1644, octal"),
-        (29, 9, false, "a mode of 2244, octal"),
-        (7, 0x24, false, "a message of one byte less"),
-        (9, 2, false, "a directory that is a file"),
-        (16, b'/', false, "a name that is none"),
-        (20, 0, false, "no replica"),
-        (42, 0, false, "an empty block"),
-        (44, 2, false, "another mark of an open file"),
-    ];
-    for (place, byte, is_whole, what) in cases {
-        let mut inodes = FILE;
-        if let Some(changed) = inodes.get_mut(place) {
-            *changed = byte;
-        }
-        assert_eq!(rt;
-            check_messages(INFO, STRINGS, &inodes, b""),
-            is_whole,
-            "{what}"
-        );
-    }
-    assert!(rt; check_messages(INFO, STRINGS, &FILE[..7], b""));
-    assert!(rt; !check_messages(INFO, STRINGS, b"", b""));
 }

@@ -1,10 +1,10 @@
 use Rattle.std.proofs.Common.{◌++◌, ◌+◌, [], length, Some, None, refl, sym, ap, subst, ◌∙◌}
 use Rattle.std.specs.FinMap.{get}
-use Rattle.nn_image.specs.Frame.{end, summary_message, summary_with}
+use Rattle.nn_message.specs.Frame.{end, summary_message, summary_with}
 use Rattle.nn_tree.specs.Below.{IsNextBelow}
 use Rattle.nn_tree.proofs.LinksLemmas.{some_of}
 use Rattle.nn_image.specs.declared.task.Stage.TheVariants.{Front, Strings, Inodes, Directories, Done}
-use Rattle.nn_image.specs.declared.summary.Lengths.{Lengths}
+use Rattle.nn_message.specs.declared.summary.Lengths.{Lengths}
 use Rattle.nn_image.specs.Saving.{Target, IsStage, AreCounted}
 use Rattle.nn_image.proofs.UsesLemmas.{no_new_use}
 use Rattle.nn_image.proofs.StepLemmas.{ok_all, carried, front_step, string_step, head_step, turn_step, inode_step, directory_step, end_step}

@@ -2,8 +2,8 @@ use Rattle.std.proofs.Common.{◌≡◌, length, true, false, Some, sym, ap, sub
 use Rattle.std.specs.Prelude.{Err}
 use Rattle.std.proofs.lemmas.List.{length-map}
 use Rattle.nn_image.specs.declared.unmade.Unmade.TheVariants.{Tree}
-use Rattle.nn_image.specs.Messages.{Text, Inode}
-use Rattle.nn_image.specs.Frame.{Sections, sections_of}
+use Rattle.nn_message.specs.Messages.{Text, Inode}
+use Rattle.nn_message.specs.Frame.{Sections, sections_of}
 use Rattle.nn_image.specs.Assembly.{table_of, add_all, namespace_of}
 use Rattle.nn_image.specs.Building.{entries_text, IsNoted}
 use Rattle.nn_image.proofs.AddingLemmas.{no_table, not_added, not_whole, not_given, all_added}

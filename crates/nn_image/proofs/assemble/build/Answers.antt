@@ -2,10 +2,10 @@ use Rattle.std.proofs.Common.{◌≡◌, List, [], ◌∷◌, sym, ap, subst, �
 use Rattle.std.specs.Prelude.{Err}
 use Rattle.std.proofs.lemmas.Option.{same_Some}
 use Rattle.nn_image.specs.declared.unmade.Unmade.TheVariants.{Tree}
-use Rattle.nn_image.specs.declared.view.InodeView.{InodeView}
-use Rattle.nn_image.specs.Messages.{Inode, IsInode}
-use Rattle.nn_image.specs.Spelling.{delimited, inode}
-use Rattle.nn_image.specs.Views.{IsInodeView}
+use Rattle.nn_message.specs.declared.view.InodeView.{InodeView}
+use Rattle.nn_message.specs.Messages.{Inode, IsInode}
+use Rattle.nn_message.specs.Spelling.{delimited, inode}
+use Rattle.nn_message.specs.Views.{IsInodeView}
 use Rattle.nn_image.specs.Assembly.{add_all}
 use Rattle.nn_image.specs.Building.{IsHalf}
 use Rattle.nn_image.proofs.AddingLemmas.{no_root, root_added, root_refused}

@@ -1,9 +1,9 @@
 use Rattle.std.proofs.Common.{◌≡◌, ℕ, sym, ap, ◌∙◌}
 use Rattle.std.specs.Prelude.{option_map}
 use Rattle.std.proofs.lemmas.Option.{none-some, same_Some}
-use Rattle.nn_image.specs.Messages.{NsInfo}
-use Rattle.nn_image.specs.Views.{info_of}
-use Rattle.nn_image.specs.Frame.{sections_of}
+use Rattle.nn_message.specs.Messages.{NsInfo}
+use Rattle.nn_message.specs.Views.{info_of}
+use Rattle.nn_message.specs.Frame.{sections_of}
 use Rattle.nn_image.specs.Building.{texts_text, inodes_text}
 use Rattle.nn_image.proofs.assemble.heads_of.Goals as goal
 

@@ -1,7 +1,7 @@
 use Rattle.std.proofs.Common.{length, sym, ap, ◌∙◌}
 use Rattle.std.proofs.lemmas.Bool.{eqb-true}
-use Rattle.nn_image.specs.Messages.{IsDirEntry}
-use Rattle.nn_image.specs.Spelling.{delimited, dir_entry}
+use Rattle.nn_message.specs.Messages.{IsDirEntry}
+use Rattle.nn_message.specs.Spelling.{delimited, dir_entry}
 use Rattle.nn_image.proofs.TakingLemmas.{none_left, delimited_some, is_none}
 use Rattle.nn_image.proofs.assemble.is_whole.Goals as goal
 

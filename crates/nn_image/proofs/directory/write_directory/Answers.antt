@@ -2,7 +2,7 @@ use Rattle.std.proofs.Common.{◌++◌, None, ap, sym, ◌∙◌}
 use Rattle.std.proofs.lemmas.Option.{same_Some}
 use Rattle.std.proofs.lemmas.Result.{on_ok_weaker}
 use Rattle.nn_tree.specs.declared.node.Node.{Node}
-use Rattle.nn_image.specs.Spelling.{delimited, dir_entry}
+use Rattle.nn_message.specs.Spelling.{delimited, dir_entry}
 use Rattle.nn_image.specs.Image.{child_ids}
 use Rattle.nn_image.proofs.ChildLemmas.{first_passed, some_child, entry_none, entry_some}
 use Rattle.nn_image.proofs.directory.write_directory.Goals as goal

@@ -1,8 +1,8 @@
 use Rattle.std.proofs.Common.{sym, subst, ◌∙◌}
 use Rattle.std.proofs.lemmas.Option.{none-some}
-use Rattle.nn_image.specs.Messages.{IsDirEntry}
-use Rattle.nn_image.specs.Spelling.{delimited, dir_entry}
-use Rattle.nn_image.specs.Views.{IsDirView}
+use Rattle.nn_message.specs.Messages.{IsDirEntry}
+use Rattle.nn_message.specs.Spelling.{delimited, dir_entry}
+use Rattle.nn_message.specs.Views.{IsDirView}
 use Rattle.nn_image.proofs.TakingLemmas.{takes_first, is_none, is_not_none}
 use Rattle.nn_image.proofs.ListingLemmas.{NextEntry, nothing_listed, none_of_a_file, none_at_the_end, listed_elsewhere, listed_without_children, listed_here}
 use Rattle.nn_image.proofs.listing.take_listing.Goals as goal

@@ -1,6 +1,6 @@
 use Rattle.std.proofs.Common.{Err, ap, sym, subst}
-use Rattle.nn_image.specs.Messages.{NsInfo}
-use Rattle.nn_image.specs.FrameViews.{sections_seen}
+use Rattle.nn_message.specs.Messages.{NsInfo}
+use Rattle.nn_message.specs.FrameViews.{sections_seen}
 use Rattle.nn_image.specs.Imaged.{IsImage}
 use Rattle.nn_image.proofs.LoadLemmas.{messages_found, no_messages, assembled, not_assembled}
 use Rattle.nn_image.proofs.loading.read_image.Goals as goal

@@ -7,11 +7,11 @@ use Rattle.nn_tree.specs.declared.node.Kind.{Kind}
 use Rattle.nn_tree.specs.declared.node.Kind.TheVariants.{File, Dir}
 use Rattle.nn_tree.specs.declared.node.Node.{Node}
 use Rattle.nn_tree.specs.Limits.{IsBlock, IsKind}
-use Rattle.nn_image.specs.declared.view.KindView.TheVariants as seen
-use Rattle.nn_image.specs.declared.view.InodeView.{InodeView}
-use Rattle.nn_image.specs.Messages.{Inode}
-use Rattle.nn_image.specs.Spelling.{blocks_field}
-use Rattle.nn_image.specs.Views.{IsInodeView, IsKindView}
+use Rattle.nn_message.specs.declared.view.KindView.TheVariants as seen
+use Rattle.nn_message.specs.declared.view.InodeView.{InodeView}
+use Rattle.nn_message.specs.Messages.{Inode}
+use Rattle.nn_message.specs.Spelling.{blocks_field}
+use Rattle.nn_message.specs.Views.{IsInodeView, IsKindView}
 use Rattle.nn_image.specs.Assembly.{Owned, node_of}
 use Rattle.nn_image.proofs.node.node_from.Goals.{in-File+in_ok-read_blocks-in-File, in-Dir}
 use Rattle.nn_image.proofs.node.node_from.Goals as goal

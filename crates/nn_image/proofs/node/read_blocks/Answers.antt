@@ -4,7 +4,7 @@ use Rattle.std.proofs.lemmas.Option.{none-some, same_Some}
 use Rattle.nn_tree.specs.declared.node.Block.{Block}
 use Rattle.nn_tree.specs.Limits.{IsBlock}
 use Rattle.nn_wire.specs.Field.{bytes_field}
-use Rattle.nn_image.specs.Spelling.{block, blocks_field}
+use Rattle.nn_message.specs.Spelling.{block, blocks_field}
 use Rattle.nn_image.proofs.TakingLemmas.{takes_first, none_left, field_some, is_none, is_not_none}
 use Rattle.nn_image.proofs.node.read_blocks.Goals as goal
 

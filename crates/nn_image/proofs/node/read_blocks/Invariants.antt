@@ -2,7 +2,7 @@ use Rattle.std.proofs.Common.{◌≡◌, List, ◌++◌, length}
 use Rattle.std.specs.Prelude.{All}
 use Rattle.nn_tree.specs.declared.node.Block.{Block}
 use Rattle.nn_tree.specs.Limits.{IsBlock}
-use Rattle.nn_image.specs.Spelling.{blocks_field}
+use Rattle.nn_message.specs.Spelling.{blocks_field}
 use Rattle.nn_image.proofs.node.read_blocks.Given as goal
 
 -- the blocks that were read, and those to come

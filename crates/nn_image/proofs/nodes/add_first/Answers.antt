@@ -4,7 +4,7 @@ use Rattle.std.specs.Prelude.{Err}
 use Rattle.nn_image.specs.declared.unmade.Unmade.TheVariants.{Tree}
 use Rattle.std.proofs.lemmas.Option.{none-some}
 use Rattle.std.proofs.lemmas.List.{nil_from_length}
-use Rattle.nn_image.specs.Views.{IsKindView}
+use Rattle.nn_message.specs.Views.{IsKindView}
 use Rattle.nn_image.specs.Assembly.{Owned, use_names, add_root}
 use Rattle.nn_image.proofs.PlacedLemmas.{starts}
 use Rattle.nn_image.proofs.TakingLemmas.{is_none, is_not_none}

@@ -1,9 +1,9 @@
 use Rattle.std.proofs.Common.{◌≡◌, List, [], ◌∷◌, ◌++◌, length, refl, sym, ap, subst, ◌∙◌, append-nil, append_assoc}
 use Rattle.std.proofs.lemmas.Option.{none-some, same_Some}
-use Rattle.nn_image.specs.declared.view.InodeView.{InodeView}
-use Rattle.nn_image.specs.Messages.{Inode, IsInode}
-use Rattle.nn_image.specs.Spelling.{delimited, inode}
-use Rattle.nn_image.specs.Views.{IsInodeView}
+use Rattle.nn_message.specs.declared.view.InodeView.{InodeView}
+use Rattle.nn_message.specs.Messages.{Inode, IsInode}
+use Rattle.nn_message.specs.Spelling.{delimited, inode}
+use Rattle.nn_message.specs.Views.{IsInodeView}
 use Rattle.nn_image.specs.Assembly.{add_inodes}
 use Rattle.nn_image.specs.Building.{IsHalf}
 use Rattle.nn_image.proofs.AddingLemmas.{none_left as no_more, one_added, one_refused}

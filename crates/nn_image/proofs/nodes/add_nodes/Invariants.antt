@@ -1,6 +1,6 @@
 use Rattle.std.proofs.Common.{◌≡◌, List, ◌++◌, length}
 use Rattle.std.specs.Prelude.{All}
-use Rattle.nn_image.specs.Messages.{Inode, DirEntry, IsInode}
+use Rattle.nn_message.specs.Messages.{Inode, DirEntry, IsInode}
 use Rattle.nn_image.specs.Assembly.{Partial, add_inodes}
 use Rattle.nn_image.specs.Building.{inodes_text, IsHalf}
 use Rattle.nn_image.proofs.nodes.add_nodes.Given as goal

@@ -1,9 +1,9 @@
 use Rattle.std.proofs.Common.{[], ◌∷◌, ◌++◌, sym, ◌∙◌}
 use Rattle.std.proofs.lemmas.Option.{none-some}
 use Rattle.std.proofs.lemmas.List.Elements.{All-push}
-use Rattle.nn_image.specs.Messages.{IsDirEntry}
-use Rattle.nn_image.specs.Spelling.{delimited, dir_entry}
-use Rattle.nn_image.specs.Views.{IsDirView}
+use Rattle.nn_message.specs.Messages.{IsDirEntry}
+use Rattle.nn_message.specs.Spelling.{delimited, dir_entry}
+use Rattle.nn_message.specs.Views.{IsDirView}
 use Rattle.nn_image.proofs.TakingLemmas.{takes_first, one_taken, is_not_none}
 use Rattle.nn_image.proofs.nodes.are_entries.Goals as goal
 

@@ -1,6 +1,6 @@
 use Rattle.std.proofs.Common.{◌≡◌, List, ◌++◌, length}
 use Rattle.std.specs.Prelude.{All}
-use Rattle.nn_image.specs.Messages.{DirEntry, IsDirEntry}
+use Rattle.nn_message.specs.Messages.{DirEntry, IsDirEntry}
 use Rattle.nn_image.specs.Building.{entries_text}
 use Rattle.nn_image.proofs.nodes.are_entries.Given as goal
 

@@ -4,7 +4,7 @@ use Rattle.std.specs.Int.{w32}
 use Rattle.std.proofs.lemmas.Int.{to_z-of_z}
 use Rattle.nn_base.specs.Paths.{Bytes}
 use Rattle.nn_image.specs.declared.task.Task.{Task}
-use Rattle.nn_image.specs.Frame.{magic, body, sections_of, summary_message, summary_of, framed, end}
+use Rattle.nn_message.specs.Frame.{magic, body, sections_of, summary_message, summary_of, framed, end}
 use Rattle.nn_image.specs.Faults.{IsSmall}
 use Rattle.nn_image.specs.Image.{content_with, content_of, image_of}
 use Rattle.nn_image.specs.Saving.{Target, left, rest, whole, end_of}

@@ -5,9 +5,9 @@ use Rattle.std.specs.Borrow.{Bor}
 use Rattle.std.specs.List.{IsDistinct, list_any}
 use Rattle.std.proofs.lemmas.Option.{none-some, same_Some}
 use Rattle.std.proofs.lemmas.List.Elements.{All-push}
-use Rattle.nn_image.specs.Messages.{IsText, IsLabel}
-use Rattle.nn_image.specs.Spelling.{delimited, string}
-use Rattle.nn_image.specs.Views.{IsTextView}
+use Rattle.nn_message.specs.Messages.{IsText, IsLabel}
+use Rattle.nn_message.specs.Spelling.{delimited, string}
+use Rattle.nn_message.specs.Views.{IsTextView}
 use Rattle.nn_image.proofs.TakingLemmas.{takes_first, none_left, delimited_some, is_none, is_not_none}
 use Rattle.nn_image.proofs.StringTableLemmas.{ToCome, none_yet, table_fails, table_holds, refuses, comes_on, ends, stays_once}
 use Rattle.nn_image.proofs.string_table.read_table.Goals as goal

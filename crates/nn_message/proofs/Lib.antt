@@ -1,0 +1,17 @@
+pub mod PutLemmas
+pub mod SummaryLemmas
+pub mod SpelledContentLemmas
+pub mod FrameLemmas
+pub mod FieldsTakenLemmas
+pub mod PlaceLemmas
+pub mod SectionLemmas
+pub mod SpellsLemmas
+pub mod NumberLemmas
+pub mod FieldLemmas
+pub mod ManyLemmas
+pub mod LoopLemmas
+pub mod TakesLemmas
+pub mod MessageLemmas
+pub mod FileLemmas
+pub mod DirectoryLemmas
+pub mod NodeLemmas

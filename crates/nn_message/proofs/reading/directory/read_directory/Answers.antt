@@ -1,0 +1,17 @@
+use Rattle.std.proofs.Common.{◌≡◌, refl, sym, ◌∙◌}
+use Rattle.nn_tree.specs.declared.node.Kind.{Kind}
+use Rattle.nn_tree.specs.declared.node.Kind.TheVariants.{Dir}
+use Rattle.nn_message.specs.declared.message.Attributes.{Attributes}
+use Rattle.nn_message.specs.MessageReading.{attributes_with, directory_at}
+use Rattle.nn_message.proofs.reading.directory.read_directory.Goals as goal
+
+pub returns : goal.returns
+unfolding directory_at
+returns c =
+    let access = c.in_ok-owner.ensures in
+    let end = sym c.is_empty.ensures ∙ c.if-not-is_empty.false in
+    let time = c.in_ok-time.time in
+    let kind : Kind = Dir (record { names = c.in_ok-names.names; space = c.in_ok-space.space }) in
+    let seen : Attributes = record { time = time; owner = c.in_ok-owner.owner; group = c.in_ok-owner.group; mode = c.in_ok-owner.mode } in
+    let same : seen ≡ attributes_with time access.0 = λ i. record { time = time; owner = access.1.0 i; group = access.1.1 i; mode = access.1.2 i } in
+    ((kind, attributes_with time access.0), (refl, same), rw (c.in_ok-time.ensures, c.in_ok-names.ensures, c.in_ok-space.ensures, access.2, end) refl)
