@@ -27,7 +27,7 @@ use Rattle.nn_image.proofs.PartialLemmas.{root_before}
 use Rattle.nn_image.proofs.OwnedLemmas.{none_read, owns_back}
 use Rattle.nn_image.proofs.DoneLemmas.{IsDone, done_root, done_on}
 use Rattle.nn_image.proofs.NextLevelLemmas.{IsNextLevel, next_level}
-use Rattle.nn_image.proofs.RangesLemmas.{few_in_table, inode_range}
+use Rattle.nn_image.proofs.ContentLemmas.{table_few, inode_in_range}
 use Rattle.nn_image.proofs.TableLemmas.{table_once, GoesOn, goes_on_with}
 use Rattle.nn_image.proofs.OwnEntryLemmas.{entry_at, own_taken, has_children, room_left}
 
@@ -111,7 +111,7 @@ module _ (ns : Namespace) (imaged : IsImaged ns) (dir_entries : List DirEntry) w
 
     in_range : IsInode inode
     unfolding inode
-    in_range = inode_range ns (string_table ns.nodes) imaged (few_in_table ns imaged) q node there
+    in_range = inode_in_range ns (string_table ns.nodes) imaged (table_few ns imaged) (q, node) there
 
     lists_here : Lists h next inode q node
     unfolding inode inode_of owned node_of step place attributes_of
@@ -184,7 +184,7 @@ module _ (ns : Namespace) (imaged : IsImaged ns) (dir_entries : List DirEntry) w
 
     root_range : IsInode root
     unfolding root
-    root_range = inode_range ns (string_table ns.nodes) imaged (few_in_table ns imaged) [] top top_there
+    root_range = inode_in_range ns (string_table ns.nodes) imaged (table_few ns imaged) ([], top) top_there
 
     root_lists : ListsRoot first root top dir_entries
     unfolding root inode_of root_owned node_of start attributes_of

@@ -59,7 +59,7 @@ last_is_name [] all = inl refl
 last_is_name (name ∷ []) all = inr (All-head (λ x. is_name x ≡ true) name [] all)
 last_is_name (name ∷ next ∷ rest) all = last_is_name (next ∷ rest) (All-tail (λ x. is_name x ≡ true) name (next ∷ rest) all)
 
-inode_in_range : (ns : Namespace) (table : List Bytes) → IsImaged ns → length table ≤ 2097152 → (e : Names × Node) → get ns.nodes e.0 ≡ Some e.1 → IsInode (inode_of table e)
+pub inode_in_range : (ns : Namespace) (table : List Bytes) → IsImaged ns → length table ≤ 2097152 → (e : Names × Node) → get ns.nodes e.0 ≡ Some e.1 → IsInode (inode_of table e)
 unfolding inode_of attributes_of
 inode_in_range ns table is few e there =
     let node = is.limits.each e.0 e.1 there in

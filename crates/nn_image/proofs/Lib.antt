@@ -31,7 +31,6 @@ pub mod DoneLemmas
 pub mod GivenLemmas
 pub mod SoundAssembly
 pub mod NextLevelLemmas
-pub mod RangesLemmas
 pub mod TableLemmas
 pub mod OwnEntryLemmas
 pub mod CompleteSteps
