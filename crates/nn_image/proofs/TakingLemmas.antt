@@ -53,12 +53,6 @@ delimited_some message none = absurd (omega (arith, varint_some (length message)
 pub field_some : (number : ℕ) (content : Bytes) → length (bytes_field number content) ≢ 0
 field_some number content none = absurd (omega (arith, varint_some (8 * number + 2), length-append (varint (8 * number + 2)) (varint (length content) ++ content)))
 
--- the messages before the rest, with one more of them
-pub one_taken : {X : Type 0} (text : X → Bytes) (xs : List X) (x : X) (all old new : Bytes) → all ≡ flat_map text xs ++ old → old ≡ text x ++ new → all ≡ flat_map text (xs ++ x ∷ []) ++ new
-one_taken text xs x all old new so_far next =
-    so_far ∙ ap (λ b. flat_map text xs ++ b) (next ∙ ap (λ b. b ++ new) (sym (append-nil (text x)))) ∙ sym (append_assoc (flat_map text xs) (text x ++ []) new)
-    ∙ ap (λ b. b ++ new) (sym (flat_map-append text xs (x ∷ [])))
-
 -- bytes begin with a message, and so there are some
 pub begins_some : (message old new : Bytes) → old ≡ delimited message ++ new → length old ≢ 0
 begins_some message old new begins none =

@@ -12,7 +12,7 @@ ghost use Rattle.nn_image.specs.Building.{AreOpen, entries_text, inodes_text, bl
 
 use crate::given;
 use crate::half::Half;
-use crate::nodes::{add_first, add_nodes, are_entries};
+use crate::nodes::{add_first, add_nodes};
 use crate::noted::Noted;
 use crate::open_dir::take_waiting;
 use crate::string_table::read_table;
@@ -29,16 +29,14 @@ fn build<'a, T: Tree>(
     inodes: &'a [u8],
     directories: &'a [u8],
 ) -> Result<(T, Half<'a>), Unmade>
-    requires { All IsLabel names.now }
+    requires labels { All IsLabel names.now }
+    requires listed { ((entries : List DirEntry) × All IsDirEntry entries × (directories.now ≡ entries_text entries)) }
     ensures ok { (entries : List DirEntry) (all : List Inode) → All IsDirEntry entries → directories.now ≡ entries_text entries → All IsInode all → inodes.now ≡ inodes_text all →
         IfOk result (λ made. ((h : Partial) × (add_all names.now entries all ≡ Some h) ×
         IsHalf made.1 (T.meaning made.0) (T.has made.0) (T.place made.0) names.now entries all h)) }
     ensures tree { (entries : List DirEntry) (all : List Inode) → All IsDirEntry entries → directories.now ≡ entries_text entries → All IsInode all → inodes.now ≡ inodes_text all →
         result ≡ Err unmade.Tree → add_all names.now entries all ≡ None }
 {
-    if !are_entries(directories) {
-        return Err(Unmade::Tree);
-    }
     let mut rest = inodes;
     let Some(first) = take_inode(&mut rest) else {
         return Err(Unmade::Tree);
@@ -124,7 +122,7 @@ fn heads_of<'a>(info: &[u8], strings: &'a [u8], inodes: &'a [u8]) -> Option<Head
 }
 
 /// The tree of the messages of an image, section by section: the one namespace that has them. An `Err` of `Tree` says
-/// that there is none.
+/// that there is none. Each message is known to be whole before, so that only how they go together is asked here.
 pub(crate) fn assemble_tree<'a, T: Tree>(
     alloc: Global,
     info: &'a [u8],
@@ -132,6 +130,8 @@ pub(crate) fn assemble_tree<'a, T: Tree>(
     inodes: &'a [u8],
     directories: &'a [u8],
 ) -> Result<T, Unmade>
+    requires { ((content : Content) × IsContent content × (sections_of content ≡
+        record { info = info.now; strings = strings.now; inodes = inodes.now; directories = directories.now })) }
     ensures ok { IfOk result (λ tree. (content : Content) → IsContent content → sections_of content ≡
         (record { info = info.now; strings = strings.now; inodes = inodes.now; directories = directories.now }) → assemble content ≡ Some (T.meaning tree)) }
     ensures tree { result ≡ Err unmade.Tree → (content : Content) → IsContent content → sections_of content ≡

@@ -1,5 +1,5 @@
 // The nodes of INODE, put into a tree one after the other.
-ghost use Rattle.std.specs.Prelude.{◌≡◌, ◌≢◌, Bool, true, false, List, ◌∷◌, [], ◌++◌, All, Err, IfOk, OnOk, Some, None};
+ghost use Rattle.std.specs.Prelude.{◌≡◌, ◌≢◌, Bool, true, List, ◌∷◌, [], ◌++◌, All, Err, IfOk, OnOk, Some, None};
 ghost use Rattle.nn_base.specs.Paths.{Bytes};
 ghost use Rattle.nn_tree.specs.declared.spot.Spot.{Spot};
 ghost use Rattle.nn_tree.specs.Nodes as nodes;
@@ -15,28 +15,13 @@ use crate::open_dir::OpenDir;
 use crate::owners::owners_of;
 use crate::seed::new_tree;
 use crate::unmade::Unmade;
-use nn_message::{InodeView, KindView, take_dir_entry, take_inode};
+use nn_message::{InodeView, KindView, take_inode};
 use nn_strtab::Names;
 use nn_tree::{Spot, Tree};
 use std::alloc::Global;
 
 /// The id of the root, HDFS's `INodeId.ROOT_INODE_ID`.
 const ROOT: u64 = 16_385;
-
-/// Whether bytes are entries of INODE_DIR, one after the other.
-pub(crate) fn are_entries(directories: &[u8]) -> bool
-    ensures yes { result ≡ true → ((entries : List DirEntry) × All IsDirEntry entries × (directories.now ≡ entries_text entries)) }
-    ensures no { result ≡ false → (entries : List DirEntry) → All IsDirEntry entries → directories.now ≢ entries_text entries }
-{
-    let mut rest = directories;
-    'entries: while !rest.is_empty() {
-        match take_dir_entry(&mut rest) {
-            Some(_) => {}
-            None => return false,
-        }
-    }
-    true
-}
 
 /// What goes with a tree of the root alone.
 fn begin<'a>(

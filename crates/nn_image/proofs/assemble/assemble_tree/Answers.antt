@@ -10,6 +10,10 @@ use Rattle.nn_image.proofs.AddingLemmas.{no_table, not_added, not_whole, not_giv
 use Rattle.nn_image.proofs.EndLemmas.{is_the_table, is_so_whole, is_not_whole, all_given}
 use Rattle.nn_image.proofs.assemble.assemble_tree.Goals as goal
 
+pub build-requires-clause-listed : goal.build-requires-clause-listed
+unfolding sections_of
+build-requires-clause-listed g c = let content = c.requires.0 in (content.dir_entries, c.requires.1.dir_entries, ap (λ (s : Sections). s.directories) (sym c.requires.2))
+
 pub returns-in-Err-clause-tree : goal.returns-in-Err-clause-tree
 unfolding sections_of
 returns-in-Err-clause-tree g c = λ err content is e.

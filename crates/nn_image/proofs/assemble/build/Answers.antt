@@ -19,7 +19,7 @@ returns-in_default-clause-tree g c = λ entries all listed directories ranges in
 
 pub add_nodes-requires-clause-half : goal.add_nodes-requires-clause-half
 add_nodes-requires-clause-half g c =
-    let listed = c.are_entries.ensures.yes c.if-not-are_entries.false in
+    let listed = c.requires.listed in
     let took = c.in-Some.ensures.some in
     let first = c.in-Ok.ensures.ok listed.0 took.0 listed.1 listed.2 took.1 took.2 in
     (listed.0, took.0 ∷ [], first.0, first.2)

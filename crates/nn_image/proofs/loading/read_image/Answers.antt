@@ -8,6 +8,9 @@ use Rattle.nn_image.proofs.loading.read_image.Goals as goal
 pub returns-in_default-clause-err : goal.returns-in_default-clause-err
 returns-in_default-clause-err g c = no_messages c.args.bytes.now c.args.layout (sections_seen c.in_ok-sections.sections) c.in_ok-sections.ensures.ok c.in_default.ensures.none
 
+pub assemble_tree-requires : goal.assemble_tree-requires
+assemble_tree-requires g c = let found = c.in-Some.ensures.some in (found.0, found.1, sym found.2)
+
 pub returns-in-Ok-clause-ok : goal.returns-in-Ok-clause-ok
 returns-in-Ok-clause-ok g c =
     let found = c.in-Some.ensures.some in
