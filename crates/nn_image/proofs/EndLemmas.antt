@@ -1,14 +1,13 @@
 -- The end of the assembly: what the tests say of the content.
-use Rattle.std.proofs.Common.{◌≡◌, ◌≢◌, ℕ, Bool, true, false, ◌&&◌, ◌==◌, List, [], length, map, refl, sym, ap, subst, ◌∙◌, arith}
-use Rattle.std.specs.Prelude.{Some, None, nat_le}
+use Rattle.std.proofs.Common.{◌≡◌, ◌≢◌, ℕ, Bool, true, false, ◌&&◌, ◌==◌, [], length, map, refl, sym, ap, ◌∙◌}
+use Rattle.std.specs.Prelude.{nat_le}
 use Rattle.std.specs.List.{list_all}
 use Rattle.std.proofs.lemmas.Bool.{eqb-true, eq-eqb, and_parts, and_from}
 use Rattle.std.proofs.lemmas.List.{nil_from_length}
-use Rattle.nn_base.specs.Paths.{Bytes}
 use Rattle.nn_tree.specs.declared.node.Block.{Block}
 use Rattle.nn_tree.specs.declared.node.Counters.{Counters}
 use Rattle.nn_message.specs.Messages.{Content, Inode}
-use Rattle.nn_image.specs.Assembly.{Level, Partial, waiting, table_of, is_table, are_given, is_whole, are_all_given, add_all, assemble, namespace_of}
+use Rattle.nn_image.specs.Assembly.{Partial, waiting, is_table, are_given, is_whole, are_all_given}
 use Rattle.nn_image.specs.Building.{blocks_among, are_table}
 use Rattle.nn_image.proofs.StringTableLemmas.{same_table}
 

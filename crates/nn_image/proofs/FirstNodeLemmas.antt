@@ -1,10 +1,10 @@
 -- The first node of an image, which is the root.
-use Rattle.std.proofs.Common.{◌≡◌, ◌≢◌, ℕ, ◌+◌, ◌<◌, ◌≤◌, Bool, true, false, List, [], ◌∷◌, ◌++◌, length, map, refl, sym, ap, subst, ◌∙◌, arith}
+use Rattle.std.proofs.Common.{◌≡◌, ◌≢◌, ℕ, Bool, true, List, [], ◌∷◌, ◌++◌, length, map, refl, sym, ap, subst, ◌∙◌, arith}
 use Rattle.std.specs.Prelude.{All, Option, Some, None, nat_le}
 use Rattle.std.proofs.lemmas.List.Elements.{All-push}
 use Rattle.std.specs.Borrow.{Bor}
 use Rattle.std.specs.List.{list_all}
-use Rattle.std.specs.FinMap.{get, insert, empty, get-empty}
+use Rattle.std.specs.FinMap.{insert, empty, get-empty}
 use Rattle.std.proofs.lemmas.Bool.{false≢true}
 use Rattle.nn_base.specs.Paths.{Bytes, Names, path_cmp}
 use Rattle.nn_quota.specs.declared.quota.Quota.{Quota}
@@ -14,7 +14,7 @@ use Rattle.nn_tree.specs.declared.node.Kind.{Kind}
 use Rattle.nn_tree.specs.declared.node.Kind.TheVariants.{File, Dir}
 use Rattle.nn_tree.specs.declared.node.Node.{Node}
 use Rattle.nn_tree.specs.Nodes.{is_dir, blocks_of}
-use Rattle.nn_tree.specs.Namespace.{Namespace, Nodes, node_count, block_count}
+use Rattle.nn_tree.specs.Namespace.{Namespace, node_count, block_count}
 use Rattle.nn_tree.proofs.LinksLemmas.{paths_total}
 use Rattle.nn_tree.proofs.TotalsLemmas.{total-insert}
 use Rattle.nn_tree.proofs.SlotsLemmas.{total-empty}
@@ -26,8 +26,8 @@ use Rattle.nn_message.specs.declared.view.KindView.TheVariants as seen
 use Rattle.nn_message.specs.Messages.{Inode, DirEntry, IsInode, IsDirEntry}
 use Rattle.nn_message.specs.Views.{IsInodeView, IsKindView}
 use Rattle.nn_image.specs.Assembly.{Owned, use_names, node_of, Partial, nothing_put, listing, opened, with_node, add_root}
-use Rattle.nn_image.specs.Building.{AreOpen, entries_text, blocks_among, IsNoted, IsMade, IsHalf}
-use Rattle.nn_image.proofs.PlacedLemmas.{HasRoom, top_place, Starts, starts, starts_back}
+use Rattle.nn_image.specs.Building.{AreOpen, entries_text, blocks_among, IsNoted, IsHalf}
+use Rattle.nn_image.proofs.PlacedLemmas.{HasRoom, top_place, starts_back}
 use Rattle.nn_image.proofs.AddingLemmas.{none_left, root_added}
 
 pub no_blocks : (kind : Kind) → is_dir kind ≡ true → blocks_of kind ≡ []

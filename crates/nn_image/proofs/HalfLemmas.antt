@@ -1,8 +1,7 @@
 -- A tree that is partly built, after one node more.
-use Rattle.std.proofs.Common.{◌≡◌, ◌≢◌, ℕ, ◌+◌, ◌<◌, ◌≤◌, Bool, true, false, cond, List, [], ◌∷◌, ◌++◌, length, map, refl, sym, ap, subst, ◌∙◌, arith, length-append}
-use Rattle.std.specs.Prelude.{All, Option, Some, None, option_and_then}
+use Rattle.std.proofs.Common.{◌≡◌, ℕ, Bool, true, false, cond, List, [], ◌∷◌, ◌++◌, ap, subst, ◌∙◌}
+use Rattle.std.specs.Prelude.{All, Some, option_and_then}
 use Rattle.std.specs.List.{flat_map}
-use Rattle.std.specs.FinMap.{get, insert}
 use Rattle.std.proofs.lemmas.Option.{none-some, same_Some, option_and_then_some}
 use Rattle.std.proofs.lemmas.List.Elements.{All-head, All-tail}
 use Rattle.nn_base.specs.Paths.{Bytes, Names}
@@ -12,7 +11,7 @@ use Rattle.nn_tree.specs.Nodes.{is_dir}
 use Rattle.nn_image.specs.declared.open_dir.OpenDir.{OpenDir}
 use Rattle.nn_message.specs.Messages.{Inode, DirEntry, IsInode, IsLong}
 use Rattle.nn_image.specs.Assembly.{Level, Partial, opened, add_inode, add_inodes, add_root, add_all}
-use Rattle.nn_image.specs.Building.{IsOpen, AreOpen, IsListed}
+use Rattle.nn_image.specs.Building.{IsOpen}
 use Rattle.nn_image.proofs.PlacedLemmas.{adds, starts}
 use Rattle.nn_image.proofs.PartialLemmas.{IsPartial, begins, goes_on}
 use Rattle.nn_wire.specs.Varint.{varint}

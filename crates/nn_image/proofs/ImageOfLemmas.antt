@@ -1,10 +1,10 @@
 -- For the reader of an image: bytes with a content are the image of what is assembled from it.
-use Rattle.std.proofs.Common.{◌≡◌, ℕ, Some, sym, ap, ◌∙◌}
+use Rattle.std.proofs.Common.{◌≡◌, ℕ, Some, ap, ◌∙◌}
 use Rattle.nn_base.specs.Paths.{Bytes}
 use Rattle.nn_tree.specs.Namespace.{Namespace}
 use Rattle.nn_message.specs.Messages.{Content}
 use Rattle.nn_message.specs.Frame.{sections_of, body, summary_message, summary_of, summary_with, framed}
-use Rattle.nn_image.specs.Image.{content_of, image_of}
+use Rattle.nn_image.specs.Image.{image_of}
 use Rattle.nn_image.specs.Imaged.{IsImage}
 use Rattle.nn_image.specs.Faults.{HasContent}
 use Rattle.nn_image.specs.Assembly.{assemble}

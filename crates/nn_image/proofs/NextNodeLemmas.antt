@@ -1,7 +1,6 @@
 -- The next node has its place, or the assembly ends there.
-use Rattle.std.proofs.Common.{◌≡◌, ◌≢◌, ℕ, ◌+◌, ◌<◌, ◌≤◌, ◌⊎◌, inl, inr, Bool, true, false, cond, List, [], ◌∷◌, ◌++◌, length, refl, sym, ap, subst, ◌∙◌, arith, length-append}
-use Rattle.std.specs.Prelude.{MatchOption, Option, Some, None, option_and_then, ◌&&◌, nat_lt, nat_le}
-use Rattle.std.proofs.lemmas.Bool.Decides.{nat_tests}
+use Rattle.std.proofs.Common.{◌≡◌, ◌≢◌, ℕ, ◌+◌, ◌<◌, ◌≤◌, ◌⊎◌, inl, inr, Bool, true, false, cond, List, [], ◌∷◌, ◌++◌, length, refl, sym, ap, ◌∙◌, arith, length-append}
+use Rattle.std.specs.Prelude.{MatchOption, Option, Some, None, option_and_then}
 use Rattle.nn_base.specs.Paths.{Bytes, Names, is_name, joined}
 use Rattle.nn_base.proofs.PathsLemmas.{joined_push}
 use Rattle.nn_tree.specs.declared.spot.Spot.{Spot}
@@ -12,7 +11,7 @@ use Rattle.nn_image.specs.declared.open_dir.OpenDir.{OpenDir}
 use Rattle.nn_message.specs.Messages.{Inode}
 use Rattle.nn_image.specs.Assembly.{Owned, use_names, Level, Place, Partial, waiting, placed, has_room, with_node, put_node, add_inode}
 use Rattle.nn_image.specs.Building.{IsOpen, AreOpen}
-use Rattle.nn_image.proofs.PlacedLemmas.{IsPlaced, placed_so, HasRoom, room_so, room_back}
+use Rattle.nn_image.proofs.PlacedLemmas.{placed_so, HasRoom, room_so}
 
 -- ---- no place
 

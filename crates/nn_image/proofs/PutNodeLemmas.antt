@@ -1,17 +1,16 @@
 -- A prepared node is put into a tree that is partly built.
-use Rattle.std.proofs.Common.{◌≡◌, ◌≢◌, ℕ, ◌+◌, ◌<◌, ◌≤◌, Bool, true, false, List, [], ◌∷◌, ◌++◌, length, refl, sym, ap, subst, ◌∙◌, arith, length-append}
-use Rattle.std.specs.Prelude.{All, Option, Some, None, Result, Ok, Err, OnOk}
-use Rattle.std.specs.List.{flat_map}
+use Rattle.std.proofs.Common.{◌≡◌, Bool, true, List, [], ◌∷◌, ◌++◌, length, sym, ap, subst, ◌∙◌, arith, length-append}
+use Rattle.std.specs.Prelude.{All, Some, None, Result, Ok, Err, OnOk}
 use Rattle.std.specs.FinMap.{get, insert}
 use Rattle.std.proofs.lemmas.Grind.{flat_map-append}
 use Rattle.std.proofs.lemmas.List.{length-map}
 use Rattle.std.proofs.lemmas.List.Elements.{All-push}
-use Rattle.nn_base.specs.Paths.{Bytes, Names, path_cmp, joined}
+use Rattle.nn_base.specs.Paths.{Bytes, Names, path_cmp}
 use Rattle.nn_tree.specs.declared.spot.Spot.{Spot}
 use Rattle.nn_tree.specs.declared.node.Block.{Block}
 use Rattle.nn_tree.specs.declared.node.Node.{Node}
 use Rattle.nn_tree.specs.Nodes.{blocks_of}
-use Rattle.nn_tree.specs.Namespace.{Namespace, Nodes, is_dir_at, node_count, block_count}
+use Rattle.nn_tree.specs.Namespace.{Namespace, is_dir_at, node_count, block_count}
 use Rattle.nn_tree.specs.Limits.{IsWithinLimits}
 use Rattle.nn_tree.specs.Spots.{Keeps}
 use Rattle.nn_tree.proofs.LinksLemmas.{paths_total}
@@ -20,11 +19,11 @@ use Rattle.nn_image.specs.declared.open_dir.OpenDir.{OpenDir}
 use Rattle.nn_image.specs.declared.prepared.Prepared.{Prepared}
 use Rattle.nn_image.specs.declared.half.Half.{Half}
 use Rattle.nn_message.specs.Messages.{Inode, DirEntry, IsInode, IsDirEntry}
-use Rattle.nn_image.specs.Assembly.{Owned, node_of, Level, Place, Partial, waiting, listing, opened, with_node, add_inode}
+use Rattle.nn_image.specs.Assembly.{node_of, Level, Place, Partial, waiting, listing, opened, with_node, add_inode}
 use Rattle.nn_image.specs.Building.{IsOpen, AreOpen, entries_text, blocks_among, IsNoted, IsPrepared, IsMade, IsHalf}
 use Rattle.nn_image.proofs.NewNodeLemmas.{one_split}
 use Rattle.nn_image.proofs.PlacedLemmas.{IsPlaced, placed_so, room_so, adds_back}
-use Rattle.nn_image.proofs.PartialLemmas.{IsPartial, IsReady, ready}
+use Rattle.nn_image.proofs.PartialLemmas.{IsReady, ready}
 use Rattle.nn_image.proofs.HalfLemmas.{made_on, made_partial}
 
 -- ---- the directories held open stay so as the tree grows

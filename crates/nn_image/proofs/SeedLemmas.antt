@@ -1,11 +1,11 @@
 -- A map of one node, and its changes.
-use Rattle.std.proofs.Common.{◌≡◌, ◌≢◌, ℕ, ◌+◌, ◌≤◌, ◌<◌, true, [], length, Some, None, refl, sym, ap, subst, ◌∙◌, arith}
-use Rattle.std.specs.FinMap.{get, insert, empty, get-empty}
+use Rattle.std.proofs.Common.{◌≡◌, ◌≤◌, [], length, Some, None, sym, ap, subst, ◌∙◌, arith}
+use Rattle.std.specs.FinMap.{insert, empty, get-empty}
 use Rattle.nn_base.specs.Paths.{Names, path_cmp}
 use Rattle.nn_tree.specs.declared.node.Node.{Node}
 use Rattle.nn_tree.specs.declared.node.Change.{Change}
-use Rattle.nn_tree.specs.Nodes.{is_dir, blocks_of}
-use Rattle.nn_tree.specs.Namespace.{Nodes, node_count, block_count}
+use Rattle.nn_tree.specs.Nodes.{blocks_of}
+use Rattle.nn_tree.specs.Namespace.{Nodes}
 use Rattle.nn_tree.specs.Limits.{IsNode, IsWithinLimits}
 use Rattle.nn_tree.specs.Changes.{change_at, changed}
 use Rattle.nn_tree.proofs.LinksLemmas.{paths_total, paths_exact}

@@ -1,6 +1,6 @@
 -- The string table as it is read: each name is new, and has the next number.
 use Rattle.std.proofs.Common.{◌≡◌, ◌≢◌, ℕ, suc, ◌+◌, ◌<◌, Bool, true, false, not, cond, ◌||◌, ◌&&◌, ◌==◌, List, [], ◌∷◌, ◌++◌, length, map, refl, sym, ap, subst, ◌∙◌, arith, inl, inr, ◌⊎◌, append-nil, append_assoc, length-append}
-use Rattle.std.specs.Prelude.{All, if◌then◌else◌}
+use Rattle.std.specs.Prelude.{if◌then◌else◌}
 use Rattle.std.specs.List.{IsDistinct, AllByRecursion, list_any, position_or_len}
 use Rattle.std.specs.Str.{bytes_eq}
 use Rattle.std.proofs.lemmas.Bool.{false≢true, eqb-true, eq-eqb, and_parts, and_from}
@@ -9,7 +9,7 @@ use Rattle.std.proofs.lemmas.Map.Keys.{IsDistinct-head, IsDistinct-tail, IsDisti
 use Rattle.nn_base.specs.Paths.{Bytes}
 use Rattle.nn_strtab.specs.Numbers.{number_in, with_use}
 use Rattle.nn_message.specs.Messages.{Text, Content}
-use Rattle.nn_image.specs.Assembly.{are_distinct, are_numbered, table_of, is_table}
+use Rattle.nn_image.specs.Assembly.{are_distinct, are_numbered, is_table}
 use Rattle.nn_image.specs.Building.{are_table}
 use Rattle.nn_image.proofs.GivenLemmas.{bytes_equiv, distinct_so, distinct_back}
 use Rattle.nn_image.proofs.UsedLemmas.{turned}

@@ -15,7 +15,7 @@ use Rattle.nn_image.specs.declared.assemble.Heads.{Heads}
 use Rattle.nn_image.specs.declared.prepared.Prepared.{Prepared}
 use Rattle.nn_message.specs.Messages.{Content, Text, Inode, DirEntry, IsLong, IsInode, IsDirEntry}
 use Rattle.nn_message.specs.Spelling.{delimited, string, inode, dir_entry}
-use Rattle.nn_image.specs.Assembly.{Owned, node_of, use_names, Level, Place, Partial, waiting, placed, has_room, Listing, add_all, are_numbered, are_distinct}
+use Rattle.nn_image.specs.Assembly.{Owned, node_of, use_names, Level, Partial, waiting, placed, has_room, Listing, add_all, are_numbered, are_distinct}
 
 -- ---- directories held open
 

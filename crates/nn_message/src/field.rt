@@ -10,7 +10,7 @@ use nn_wire::varint_put;
 /// The kind of a field of bytes, in the key's lowest bits; that of a number is 0.
 const BYTES: u64 = 2;
 
-/// Appends a field whose content is a number: its key, and the number.
+/// Appends a field of this number whose content is a number too: its key, and the content, as Protocol Buffers spell them.
 pub fn put_number(number: u32, value: u64, out: &mut Vec<u8>) -> Result<(), NoMemory>
     ensures ok { OnOk result (out.new.items ≡ out.old.items ++ varint_field number value) }
 {

@@ -72,7 +72,8 @@ fn are_directories(section: &[u8]) -> bool
     true
 }
 
-/// Whether the sections are whole messages, each in its ranges. How they go together isn't asked, nor how many there are.
+/// Whether NS_INFO, STRING_TABLE, INODE and INODE_DIR are whole messages, each in its ranges. How they go together isn't
+/// asked, nor how many there are.
 pub fn check_messages(info: &[u8], strings: &[u8], inodes: &[u8], directories: &[u8]) -> bool
     ensures yes { result ≡ true → (content : Content) × IsContent content × (record {
       info = info.now;

@@ -115,7 +115,8 @@ pub(super) fn next_dir_entry<'a>(rest: &mut &'a [u8]) -> Option<DirView<'a>>
     read_dir_entry(message)
 }
 
-/// A directory and its children.
+/// Takes an entry of INODE_DIR off the front, `INodeDirectorySection.DirEntry`: a directory and its children. After `None`
+/// nothing is known of what is left.
 pub fn take_dir_entry<'a>(rest: &mut &'a [u8]) -> Option<DirView<'a>>
     ensures { reading.Takes views.IsDirView IsDirEntry
         (λ d. spelling.delimited (spelling.dir_entry d)) result rest.old.now rest.new.now }

@@ -65,7 +65,8 @@ fn next_block(rest: &mut &[u8]) -> Option<Block>
     read_block(message)
 }
 
-/// A block of a file, as one of its fields.
+/// Takes a block off the front of a file's blocks, as one of its fields, `INodeFile.blocks`. After `None` nothing is known
+/// of what is left.
 pub fn take_block(rest: &mut &[u8]) -> Option<Block>
     ensures { reading.Takes (λ v b. v ≡ b) IsBlock
         (λ b. bytes_field 6 (spelling.block b)) result rest.old.now rest.new.now }

@@ -60,7 +60,7 @@ pub(super) fn read_section(section: &[u8]) -> Option<InfoView>
     Some(info)
 }
 
-/// The whole of NS_INFO.
+/// What NS_INFO says, `NameSystemSection`, where the section is just its one message.
 pub fn read_ns_info(section: &[u8]) -> Option<InfoView>
     ensures some { IfSome result (λ view. IsNsInfo (info_of view) ×
         (section.now ≡ spelling.delimited (spelling.ns_info (info_of view)))) }

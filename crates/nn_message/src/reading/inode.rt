@@ -56,7 +56,8 @@ pub(super) fn next_inodes(rest: &mut &[u8]) -> Option<(u64, u64)>
     read_inodes(message)
 }
 
-/// What INODE begins with: the last inode id given, and how many nodes it says that it has.
+/// Takes what INODE begins with, `INodeSection`: the last inode id given, and how many nodes it says that it has. After
+/// `None` nothing is known of what is left.
 pub fn take_inodes_head(rest: &mut &[u8]) -> Option<(u64, u64)>
     ensures { reading.Takes (λ v x. v ≡ x) views.AreInodes
         (λ x. spelling.delimited (spelling.inodes x.0 x.1)) result rest.old.now rest.new.now }
@@ -126,7 +127,7 @@ pub(super) fn next_inode<'a>(rest: &mut &'a [u8]) -> Option<InodeView<'a>>
     read_inode(message)
 }
 
-/// A node.
+/// Takes a node off the front of INODE, `INodeSection.INode`. After `None` nothing is known of what is left.
 pub fn take_inode<'a>(rest: &mut &'a [u8]) -> Option<InodeView<'a>>
     ensures { reading.Takes views.IsInodeView IsInode
         (λ i. spelling.delimited (spelling.inode i)) result rest.old.now rest.new.now }

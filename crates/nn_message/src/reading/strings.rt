@@ -31,7 +31,8 @@ pub(super) fn next_strings(rest: &mut &[u8]) -> Option<u64>
     read_strings(message)
 }
 
-/// What STRING_TABLE begins with: how many strings it says that it has.
+/// Takes what STRING_TABLE begins with, `StringTableSection`: how many strings it says that it has. After `None` nothing
+/// is known of what is left.
 pub fn take_strings_head(rest: &mut &[u8]) -> Option<u64>
     ensures { reading.Takes (λ v n. v ≡ n) IsVarintNumber
         (λ n. spelling.delimited (spelling.strings n)) result rest.old.now rest.new.now }
@@ -75,7 +76,8 @@ pub(super) fn next_string<'a>(rest: &mut &'a [u8]) -> Option<(u64, &'a [u8])>
     read_string(message)
 }
 
-/// A string, of 1 to 32 bytes, behind its number.
+/// Takes an entry of STRING_TABLE off the front, `StringTableSection.Entry`: a string of 1 to 32 bytes, behind its number.
+/// After `None` nothing is known of what is left.
 pub fn take_string<'a>(rest: &mut &'a [u8]) -> Option<(u64, &'a [u8])>
     ensures { reading.Takes IsTextView IsText
         (λ t. spelling.delimited (spelling.string t)) result rest.old.now rest.new.now }
