@@ -1,8 +1,9 @@
 // Why no image was read.
 use thiserror::Error;
 
-/// What is wrong with an image: the first of these that applies, in this order. `Field` comes for the summary before
-/// the four faults after it, and for the messages of a section after them.
+/// What is wrong with an image: the first of these that applies, in this order, but that `Field` has two places. For the
+/// summary it comes before the three faults after it; for the messages of the sections it comes after those three, and
+/// before `Tree`.
 #[derive(Clone, Copy, Debug, PartialEq, Eq, Error)]
 pub enum ImageFault {
     /// It has more than 2^30 bytes.
@@ -30,7 +31,8 @@ pub enum ImageFault {
     /// The messages together are no namespace, or not one in the one order.
     #[error("tree")]
     Tree,
-    /// Memory ran out; nothing is said of the image.
+    /// Memory ran out. Each message is whole, and as many strings and nodes are there as is said; nothing more is said
+    /// of the image.
     #[error("memory")]
     Memory,
 }

@@ -75,8 +75,9 @@ pub(crate) fn magnitude(layout: i32) -> u32
     layout.unsigned_abs()
 }
 
-/// Begins to write the image of a namespace, as it is at a transaction. The layout is negative, as all of HDFS's are,
-/// and the namespaceID is at least 1; an image has a layout without its sign. It has at most 2^30 bytes, as many as are read.
+/// Begins to write the image of a namespace, as it is at a transaction: at most 2^30 bytes, as many as are read. Let the
+/// namespaceID be 1 to 2^31 - 1, since bytes with another one are no image that `load` reads, and the layout negative, as
+/// all of HDFS's are, since an image doesn't tell its sign.
 pub fn save<T: Tree>(
     alloc: Global,
     tree: &T,
