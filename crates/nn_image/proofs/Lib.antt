@@ -37,6 +37,7 @@ pub mod CompleteSteps
 pub mod CompleteAssembly
 pub mod AddingLemmas
 pub mod LoadLemmas
+pub mod CountLemmas
 pub mod NextNodeLemmas
 pub mod HalfLemmas
 pub mod PutNodeLemmas

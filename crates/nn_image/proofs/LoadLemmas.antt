@@ -1,23 +1,27 @@
 -- From the sections of an image to its messages, and from those to a namespace: what each step of loading finds.
-use Rattle.std.proofs.Common.{◌≡◌, ◌≢◌, ℕ, None, Some, sym, ap, subst, ◌∙◌, inr, arith}
+use Rattle.std.proofs.Common.{◌≡◌, ◌≢◌, ℕ, ◌^◌, ◌≤◌, length, None, Some, sym, ap, subst, ◌∙◌, inr, arith}
 use Rattle.nn_base.specs.Paths.{Bytes}
 use Rattle.nn_tree.specs.Namespace.{Namespace}
 use Rattle.nn_image.specs.declared.fault.ImageFault.TheVariants.{Field, Tree}
 use Rattle.nn_message.specs.Messages.{Content, IsContent}
-use Rattle.nn_message.specs.Frame.{Sections, sections_of, body, summary_message, summary_with, summary_of, framed}
+use Rattle.nn_message.specs.Frame.{Sections, sections_of, body, summary_message, summary_with, summary_of, lengths_of, framed}
 use Rattle.nn_message.specs.Spelling.{delimited, ns_info}
 use Rattle.nn_image.specs.Image.{content_of, image_of}
 use Rattle.nn_image.specs.Imaged.{IsImage}
 use Rattle.nn_image.specs.Assembly.{assemble}
 use Rattle.nn_image.specs.Faults.{HasSections, HasContent, IsFault, OneImage}
 use Rattle.nn_image.proofs.FirstFaultLemmas.{image_whole}
-use Rattle.nn_image.proofs.HasLemmas.{framed_short}
+use Rattle.nn_image.proofs.HasLemmas.{framed_short, body_few, lengths_few}
 use Rattle.nn_image.proofs.OneImageLemmas.{one_sections}
 use Rattle.nn_message.proofs.SpelledContentLemmas.{content_apart}
 use Rattle.nn_image.proofs.CompleteAssembly.{one_namespace, none_saved}
 use Rattle.nn_image.proofs.SoundAssembly.{assemble_sound}
 
 -- ---- messages
+
+pub strings_few : (bytes : Bytes) (layout : ℕ) (s : Sections) → HasSections bytes layout s → length s.strings ≤ 2 ^ 30
+unfolding lengths_of
+strings_few bytes layout s has = omega (arith, lengths_few s (body_few bytes (body s) (summary_message (summary_of layout s)) has.1))
 
 pub messages_found : (bytes : Bytes) (layout : ℕ) (s : Sections) (content : Content) → HasSections bytes layout s → IsContent content → s ≡ sections_of content → HasContent bytes layout content
 messages_found bytes layout s content has ranged same = (ranged, subst (HasSections bytes layout) same has)

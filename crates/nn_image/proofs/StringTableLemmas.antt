@@ -4,12 +4,11 @@ use Rattle.std.specs.Prelude.{if◌then◌else◌}
 use Rattle.std.specs.List.{IsDistinct, AllByRecursion, list_any, position_or_len}
 use Rattle.std.specs.Str.{bytes_eq}
 use Rattle.std.proofs.lemmas.Bool.{false≢true, eqb-true, eq-eqb, and_parts, and_from}
-use Rattle.std.proofs.lemmas.List.{length-map}
 use Rattle.std.proofs.lemmas.Map.Keys.{IsDistinct-head, IsDistinct-tail, IsDistinct-push}
 use Rattle.nn_base.specs.Paths.{Bytes}
 use Rattle.nn_strtab.specs.Numbers.{number_in, with_use}
 use Rattle.nn_message.specs.Messages.{Text, Content}
-use Rattle.nn_image.specs.Assembly.{are_distinct, are_numbered, is_table}
+use Rattle.nn_image.specs.Assembly.{table_of, are_distinct, are_numbered, is_table}
 use Rattle.nn_image.specs.Building.{are_table}
 use Rattle.nn_image.proofs.GivenLemmas.{bytes_equiv, distinct_so, distinct_back}
 use Rattle.nn_image.proofs.UsedLemmas.{turned}
@@ -66,25 +65,24 @@ not_twice (name ∷ names) text more once =
 
 -- ---- the table
 
-pub same_table : (content : Content) → are_table content.text_count content.texts ≡ is_table content
+pub same_table : (content : Content) → content.text_count ≡ length content.texts → is_table content ≡ are_table content.texts
 unfolding are_table is_table
-same_table content = refl
+same_table content count = let said = eq-eqb content.text_count (length content.texts) count in λ i. said i && are_numbered 1 content.texts && are_distinct bytes_eq (table_of content)
 
 -- the test, part by part
-tests_fail : (a b c : Bool) → (a ≡ true → b ≡ true → c ≡ true → ⊥) → (a && b && c) ≡ false
-tests_fail true true true not = absurd (not refl refl refl)
-tests_fail true true false not = refl
-tests_fail true false c not = refl
-tests_fail false b c not = refl
+tests_fail : (a b : Bool) → (a ≡ true → b ≡ true → ⊥) → (a && b) ≡ false
+tests_fail true true not = absurd (not refl refl)
+tests_fail true false not = refl
+tests_fail false b not = refl
 
-pub table_fails : (count : ℕ) (texts : List Text) → (count ≡ length texts → are_numbered 1 texts ≡ true → IsDistinct bytes_eq (map (λ (t : Text). t.text) texts) → ⊥) → are_table count texts ≡ false
+table_fails : (texts : List Text) → (are_numbered 1 texts ≡ true → IsDistinct bytes_eq (map (λ (t : Text). t.text) texts) → ⊥) → are_table texts ≡ false
 unfolding are_table
-table_fails count texts not = tests_fail (count == length texts) (are_numbered 1 texts) (are_distinct bytes_eq (map (λ t. t.text) texts))
-    (λ a b c. not (eqb-true count (length texts) a) b (distinct_so bytes_equiv (map (λ (t : Text). t.text) texts) c))
+table_fails texts not = tests_fail (are_numbered 1 texts) (are_distinct bytes_eq (map (λ t. t.text) texts))
+    (λ a b. not a (distinct_so bytes_equiv (map (λ (t : Text). t.text) texts) b))
 
-pub table_holds : (count : ℕ) (texts : List Text) → count ≡ length texts → are_numbered 1 texts ≡ true → IsDistinct bytes_eq (map (λ (t : Text). t.text) texts) → are_table count texts ≡ true
+pub table_holds : (texts : List Text) → are_numbered 1 texts ≡ true → IsDistinct bytes_eq (map (λ (t : Text). t.text) texts) → are_table texts ≡ true
 unfolding are_table
-table_holds count texts a b c = and_from _ _ (and_from _ _ (eq-eqb count (length texts) a) b) (distinct_back bytes_equiv (map (λ (t : Text). t.text) texts) c)
+table_holds texts a b = and_from _ _ a (distinct_back bytes_equiv (map (λ (t : Text). t.text) texts) b)
 
 -- ---- the strings to come
 
@@ -95,11 +93,11 @@ pub record ToCome (names : List Bytes) (entries ahead : List Text) : Type 0 wher
 pub none_yet : (entries : List Text) → ToCome [] entries entries
 none_yet entries = record { texts = refl; numbers = refl }
 
-pub refuses : (count : ℕ) (names : List Bytes) (entries ahead : List Text) (first : Text) (rest : List Text) → ToCome names entries ahead → ahead ≡ first ∷ rest
-    → (first.number ≢ length names + 1) ⊎ (list_any (bytes_eq first.text) names ≡ true) → are_table count entries ≡ false
-refuses count names entries ahead first rest come are (inl other) = table_fails count entries (λ c numbered once.
+pub refuses : (names : List Bytes) (entries ahead : List Text) (first : Text) (rest : List Text) → ToCome names entries ahead → ahead ≡ first ∷ rest
+    → (first.number ≢ length names + 1) ⊎ (list_any (bytes_eq first.text) names ≡ true) → are_table entries ≡ false
+refuses names entries ahead first rest come are (inl other) = table_fails entries (λ numbered once.
     other (eqb-true first.number (length names + 1) (and_parts (first.number == length names + 1) _ (sym (come.numbers ∙ ap (are_numbered (length names + 1)) are) ∙ numbered)).0))
-refuses count names entries ahead first rest come are (inr again) = table_fails count entries (λ c numbered once.
+refuses names entries ahead first rest come are (inr again) = table_fails entries (λ numbered once.
     false≢true (sym (not_twice names first.text (map (λ (t : Text). t.text) rest) (subst (IsDistinct bytes_eq) (come.texts ∙ ap (λ a. names ++ map (λ (t : Text). t.text) a) are) once)) ∙ again))
 
 pub comes_on : (names more : List Bytes) (entries ahead : List Text) (first : Text) (rest : List Text) → ToCome names entries ahead → ahead ≡ first ∷ rest → first.number ≡ length names + 1 → more ≡ names ++ first.text ∷ []
@@ -112,7 +110,5 @@ comes_on names more entries ahead first rest come are number added = record {
       come.numbers ∙ ap (are_numbered (length names + 1)) are ∙ (λ i. first_is i && are_numbered (longer i) rest);
 }
 
-pub ends : (count : ℕ) (names : List Bytes) (entries : List Text) → ToCome names entries [] → (map (λ (t : Text). t.text) entries ≡ names) × (are_numbered 1 entries ≡ true) × (length entries ≡ length names)
-ends count names entries come =
-    let texts = come.texts ∙ append-nil names in
-    (texts, come.numbers, sym (length-map entries (λ (t : Text). t.text)) ∙ ap length texts)
+pub ends : (names : List Bytes) (entries : List Text) → ToCome names entries [] → (map (λ (t : Text). t.text) entries ≡ names) × (are_numbered 1 entries ≡ true)
+ends names entries come = (come.texts ∙ append-nil names, come.numbers)

@@ -1,5 +1,5 @@
 -- How far the tree of an image is built: what the directories held open, and the bytes to come, stand for.
-use Rattle.std.specs.Prelude.{◌≡◌, ◌==◌, ◌&&◌, bytes_eq, ℕ, Bool, true, nat_le, List, [], ◌∷◌, ◌++◌, map, length, All, Option, Some, None}
+use Rattle.std.specs.Prelude.{◌≡◌, ◌&&◌, bytes_eq, ℕ, Bool, true, nat_le, List, [], ◌∷◌, ◌++◌, map, length, All, Option, Some, None}
 use Rattle.std.specs.Borrow.{Bor}
 use Rattle.std.specs.List.{flat_map, list_all}
 use Rattle.nn_base.specs.Paths.{Bytes, Names, joined}
@@ -47,9 +47,9 @@ entries_text entries = flat_map (λ d. delimited (dir_entry d)) entries
 
 -- ---- the string table
 
--- numbered from 1 in their order, none twice, and as many as was said
-unfoldable pub are_table : ℕ → List Text → Bool
-are_table count texts = (count == length texts) && are_numbered 1 texts && are_distinct bytes_eq (map (λ t. t.text) texts)
+-- numbered from 1 in their order, and none twice
+unfoldable pub are_table : List Text → Bool
+are_table texts = are_numbered 1 texts && are_distinct bytes_eq (map (λ t. t.text) texts)
 
 -- ---- what INODE_DIR has for a node
 

@@ -34,6 +34,10 @@ HasSections bytes layout sections = HasSummary bytes (body sections) (summary_of
 abbrev pub HasContent : Bytes → ℕ → Content → Type 0
 HasContent bytes layout content = IsContent content × HasSections bytes layout (sections_of content)
 
+-- as many strings and nodes as is said
+abbrev pub IsCounted : Content → Type 0
+IsCounted content = (content.text_count ≡ length content.texts) × (content.inode_count ≡ length content.inodes)
+
 -- ---- faults of what one message shows by itself
 
 abbrev pub HasNoSummary : Bytes → Type 0
@@ -44,7 +48,7 @@ HasNoContent bytes layout = (sections : Sections) × HasSections bytes layout se
 
 -- ---- the first fault of bytes that are read as an image of a layout
 
--- `Tree` is what only several messages show together. Memory is asked for only where each message is whole.
+-- `Tree` is what only several messages show together. Memory is asked for only where each message is whole and each count is true.
 abbrev pub IsFault : ImageFault → Bytes → ℕ → Type 0
 IsFault TooLarge bytes layout = ¬ IsSmall bytes
 IsFault Magic bytes layout = IsSmall bytes × ¬ IsMarked bytes
@@ -54,7 +58,7 @@ IsFault Codec bytes layout = (text : Bytes) × (summary : Summary) × HasSummary
 IsFault (Layout found) bytes layout = (text : Bytes) × (summary : Summary) × IsPlain bytes text summary × (summary.layout ≡ found) × (found ≢ layout)
 IsFault Section bytes layout = (text : Bytes) × (summary : Summary) × IsPlain bytes text summary × (summary.layout ≡ layout) × ((sections : Sections) → ¬ HasSections bytes layout sections)
 IsFault Tree bytes layout = (content : Content) × HasContent bytes layout content × ((ns : Namespace) (id namespace : ℕ) → ¬ IsImage bytes ns id namespace layout)
-IsFault Memory bytes layout = (content : Content) × HasContent bytes layout content
+IsFault Memory bytes layout = (content : Content) × HasContent bytes layout content × IsCounted content
 
 -- ---- each fault comes exactly where it is the first
 

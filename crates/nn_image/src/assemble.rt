@@ -1,5 +1,5 @@
 // The tree of an image's messages.
-ghost use Rattle.std.specs.Prelude.{◌≡◌, ◌≢◌, ◌==◌, ◌&&◌, ℕ, Bool, true, false, List, [], All, Err, IfOk, Some, None, IfSome, MatchOption, length, map, nat_le};
+ghost use Rattle.std.specs.Prelude.{◌≡◌, ◌≢◌, ◌==◌, ◌&&◌, ◌↔◌, ◌≤◌, ◌^◌, ℕ, Bool, true, false, List, [], All, Err, IfOk, Some, None, IfSome, MatchOption, IsTrue, length, map, nat_le};
 ghost use Rattle.std.specs.List.{list_all};
 ghost use Rattle.nn_base.specs.Paths.{Bytes};
 ghost use Rattle.nn_tree.specs.declared.spot.Spot.{Spot};
@@ -9,7 +9,9 @@ ghost use Rattle.nn_message.specs.Messages.{Content, Inode, DirEntry, IsContent,
 ghost use Rattle.nn_message.specs.Frame.{sections_of};
 ghost use Rattle.nn_image.specs.Assembly.{Level, Partial, waiting, are_given, add_all, assemble};
 ghost use Rattle.nn_image.specs.Building.{AreOpen, entries_text, inodes_text, blocks_among, IsNoted, IsHalf, AreHeads};
+ghost use Rattle.nn_image.specs.Faults.{IsCounted};
 
+use crate::count::count_messages;
 use crate::given;
 use crate::half::Half;
 use crate::nodes::{add_first, add_nodes};
@@ -50,14 +52,14 @@ fn build<'a, T: Tree>(
     }
 }
 
-/// Whether nothing is to come any more, all names of the string table are used, and there are as many nodes as was said.
-fn is_whole(half: &mut Half<'_>, names: &Names, count: u64) -> bool
+/// Whether nothing is to come any more, and all names of the string table are used.
+fn is_whole(half: &mut Half<'_>, names: &Names) -> bool
     ensures yes { result ≡ true → (has : Spot → Bool) (place : Spot → List Bytes) (levels : List Level) (entries : List DirEntry) →
         AreOpen has place half.old.dirs.items levels → All IsDirEntry entries → half.old.directories.now ≡ entries_text entries →
-        (waiting levels ≡ []) × (entries ≡ []) × (half.old.used ≡ length names.now) × (count ≡ length half.old.noted.inodes.items) }
+        (waiting levels ≡ []) × (entries ≡ []) × (half.old.used ≡ length names.now) }
     ensures no { result ≡ false → (has : Spot → Bool) (place : Spot → List Bytes) (levels : List Level) (entries : List DirEntry) →
         AreOpen has place half.old.dirs.items levels → All IsDirEntry entries → half.old.directories.now ≡ entries_text entries →
-        waiting levels ≡ [] → entries ≡ [] → half.old.used ≡ length names.now → count ≢ length half.old.noted.inodes.items }
+        waiting levels ≡ [] → entries ≡ [] → half.old.used ≢ length names.now }
     ensures noted { half.new.noted ≡ half.old.noted }
 {
     match take_waiting(&mut half.dirs) {
@@ -67,10 +69,7 @@ fn is_whole(half: &mut Half<'_>, names: &Names, count: u64) -> bool
     if !half.directories.is_empty() {
         return false;
     }
-    if half.used != names.len() {
-        return false;
-    }
-    count == half.noted.inodes.len() as u64
+    half.used == names.len()
 }
 
 /// Whether no id was given twice, and neither an id nor a stamp is above the last one given.
@@ -100,6 +99,7 @@ struct Heads<'a> {
 
 fn heads_of<'a>(info: &[u8], strings: &'a [u8], inodes: &'a [u8]) -> Option<Heads<'a>>
     ensures ranges { IfSome result (λ heads. IsCounters heads.last) }
+    ensures few { IfSome result (λ heads. length heads.texts.now ≤ length strings.now) }
     ensures some { (content : Content) → IsContent content → info.now ≡ (sections_of content).info → strings.now ≡ (sections_of content).strings → inodes.now ≡ (sections_of content).inodes →
         MatchOption result ⊥ (λ heads. AreHeads heads content) }
 {
@@ -121,26 +121,31 @@ fn heads_of<'a>(info: &[u8], strings: &'a [u8], inodes: &'a [u8]) -> Option<Head
     })
 }
 
-/// The tree of the messages of an image, section by section: the one namespace that has them. An `Err` of `Tree` says
-/// that there is none. Each message is known to be whole before, so that only how they go together is asked here.
-pub(crate) fn assemble_tree<'a, T: Tree>(
+/// Whether there are as many strings and nodes as is said.
+fn is_counted(heads: &Heads<'_>) -> bool
+    ensures { (content : Content) → AreHeads heads.now content → IsTrue result ↔ IsCounted content }
+{
+    if count_messages(heads.texts) != heads.strings {
+        return false;
+    }
+    count_messages(heads.inodes) == heads.nodes
+}
+
+/// The tree of all messages, where the counts are theirs. An `Err` of `Tree` says that there is none.
+fn tree_of<'a, T: Tree>(
     alloc: Global,
-    info: &'a [u8],
-    strings: &'a [u8],
-    inodes: &'a [u8],
+    heads: &Heads<'a>,
     directories: &'a [u8],
 ) -> Result<T, Unmade>
-    requires { ((content : Content) × IsContent content × (sections_of content ≡
-        record { info = info.now; strings = strings.now; inodes = inodes.now; directories = directories.now })) }
-    ensures ok { IfOk result (λ tree. (content : Content) → IsContent content → sections_of content ≡
-        (record { info = info.now; strings = strings.now; inodes = inodes.now; directories = directories.now }) → assemble content ≡ Some (T.meaning tree)) }
-    ensures tree { result ≡ Err unmade.Tree → (content : Content) → IsContent content → sections_of content ≡
-        (record { info = info.now; strings = strings.now; inodes = inodes.now; directories = directories.now }) → assemble content ≡ None }
+    requires few { length heads.now.texts.now ≤ 2 ^ 30 }
+    requires listed { ((entries : List DirEntry) × All IsDirEntry entries × (directories.now ≡ entries_text entries)) }
+    requires ranges { IsCounters heads.now.last }
+    ensures ok { (content : Content) → IsContent content → AreHeads heads.now content → directories.now ≡ entries_text content.dir_entries → IsCounted content →
+        IfOk result (λ tree. assemble content ≡ Some (T.meaning tree)) }
+    ensures tree { (content : Content) → IsContent content → AreHeads heads.now content → directories.now ≡ entries_text content.dir_entries → IsCounted content →
+        result ≡ Err unmade.Tree → assemble content ≡ None }
 {
-    let Some(heads) = heads_of(info, strings, inodes) else {
-        return Err(Unmade::Tree);
-    };
-    let names = match read_table(alloc, heads.strings, heads.texts) {
+    let names = match read_table(alloc, heads.texts) {
         Ok(names) => names,
         Err(unmade) => return Err(unmade),
     };
@@ -148,7 +153,7 @@ pub(crate) fn assemble_tree<'a, T: Tree>(
         Ok(built) => built,
         Err(unmade) => return Err(unmade),
     };
-    if !is_whole(&mut half, &names, heads.nodes) {
+    if !is_whole(&mut half, &names) {
         return Err(Unmade::Tree);
     }
     if !are_all_given(&mut half.noted, &heads.last) {
@@ -156,4 +161,35 @@ pub(crate) fn assemble_tree<'a, T: Tree>(
     }
     tree.set_counters(heads.last);
     Ok(tree)
+}
+
+/// The tree of the messages of an image, section by section: the one namespace that has them. An `Err` of `Tree` says
+/// that there is none. One of `Memory` comes only where the counts are those of the messages. Each message is known to be
+/// whole before, so that only how they go together is asked here.
+pub(crate) fn assemble_tree<'a, T: Tree>(
+    alloc: Global,
+    info: &'a [u8],
+    strings: &'a [u8],
+    inodes: &'a [u8],
+    directories: &'a [u8],
+) -> Result<T, Unmade>
+    requires few { length strings.now ≤ 2 ^ 30 }
+    requires whole { ((content : Content) × IsContent content × (sections_of content ≡
+        record { info = info.now; strings = strings.now; inodes = inodes.now; directories = directories.now })) }
+    ensures ok { (content : Content) → IsContent content → sections_of content ≡
+        (record { info = info.now; strings = strings.now; inodes = inodes.now; directories = directories.now }) → IfOk result (λ tree. assemble content ≡ Some (T.meaning tree)) }
+    ensures tree { result ≡ Err unmade.Tree → (content : Content) → IsContent content → sections_of content ≡
+        (record { info = info.now; strings = strings.now; inodes = inodes.now; directories = directories.now }) → assemble content ≡ None }
+    ensures memory { result ≡ Err unmade.Memory → (content : Content) → IsContent content → sections_of content ≡
+        (record { info = info.now; strings = strings.now; inodes = inodes.now; directories = directories.now }) → IsCounted content }
+{
+    let Some(heads) = heads_of(info, strings, inodes) else {
+        return Err(Unmade::Tree);
+    };
+    // A count may be damaged, so it is looked at before any memory is asked for.
+    if is_counted(&heads) {
+        tree_of(alloc, &heads, directories)
+    } else {
+        Err(Unmade::Tree)
+    }
 }

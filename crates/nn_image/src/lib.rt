@@ -5,6 +5,7 @@
 
 mod advance;
 mod assemble;
+mod count;
 mod directory;
 mod fault;
 mod frame;

@@ -9,4 +9,4 @@ pub returns-clause-yes : goal.returns-clause-yes
 returns-clause-yes c = λ yes has place levels entries are all spelled.
     let none = is_none c.args.half.now.directories.now c.is_empty.result c.is_empty.ensures c.if-not-is_empty.false in
     let end = none_left IsDirEntry (λ d. delimited (dir_entry d)) entries (λ d _. delimited_some (dir_entry d)) all (sym (ap length spelled) ∙ none) in
-    (c.in-None.ensures has place levels are, end, c.if-half-len.false ∙ c.len.ensures.value, eqb-true _ _ yes ∙ c.len-2.ensures ∙ c.args.half.now.noted.inodes.ok.0)
+    (c.in-None.ensures has place levels are, end, eqb-true _ _ yes ∙ c.len.ensures.value)

@@ -1,0 +1,53 @@
+-- Messages one after the other are counted by their lengths: what is behind the first, and how many are left.
+use Rattle.std.proofs.Common.{◌≡◌, ℕ, ◌+◌, ◌^◌, ◌<◌, List, [], ◌∷◌, ◌++◌, length, map, drop, sym, ap, ◌∙◌, append_assoc, length-append, arith}
+use Rattle.std.specs.List.{flat_map}
+use Rattle.std.proofs.lemmas.List.{drop_at, length-map}
+use Rattle.nn_base.specs.Paths.{Bytes}
+use Rattle.nn_wire.specs.Varint.{varint, Begins}
+use Rattle.nn_message.specs.Spelling.{delimited}
+use Rattle.nn_image.proofs.ListsLemmas.{flat_map-map}
+
+-- ---- the first message
+
+-- its length stands in front of it
+pub begins : (bytes message after : Bytes) → length bytes < 2 ^ 64 → bytes ≡ delimited message ++ after → Begins bytes (length message) (message ++ after)
+unfolding delimited
+begins bytes message after short e =
+    let text : bytes ≡ varint (length message) ++ (message ++ after) = e ∙ append_assoc (varint (length message)) message after in
+    record { small = omega (arith, short, ap length text, length-append (varint (length message)) (message ++ after), length-append message after); text = text }
+
+-- what was read of that length, and what is behind it
+pub begins_with : (bytes message after : Bytes) (len size : ℕ) → Begins bytes (length message) (message ++ after) → ◌≡◌ {A = ℕ × ℕ} (len, size) (length message, length (varint (length message))) → (len ≡ length message) × (drop size bytes ≡ message ++ after)
+begins_with bytes message after len size first same =
+    let at = ap (λ (x : ℕ × ℕ). x.1) same in
+    (ap (λ (x : ℕ × ℕ). x.0) same, ap (drop size) first.text ∙ drop_at (varint (length message)) (message ++ after) size (sym at))
+
+-- ---- how many are left
+
+-- So many were counted, and these are to come.
+pub record AreLeft (messages : List Bytes) (count : ℕ) (rest : Bytes) : Type 0 where
+  pub ahead : List Bytes
+  pub are : rest ≡ flat_map delimited ahead
+  pub all : count + length ahead ≡ length messages
+
+pub none_counted : (messages : List Bytes) (bytes : Bytes) → bytes ≡ flat_map delimited messages → AreLeft messages 0 bytes
+none_counted messages bytes e = record { ahead = messages; are = e; all = omega arith }
+
+pub one_counted : (messages : List Bytes) (count : ℕ) (rest behind : Bytes) → ((message after : Bytes) → rest ≡ delimited message ++ after → behind ≡ after) → length behind < length rest → AreLeft messages count rest → AreLeft messages (count + 1) behind
+one_counted messages count rest behind first shorter left = by left.ahead left.are left.all
+  where
+    by : (ahead : List Bytes) → rest ≡ flat_map delimited ahead → count + length ahead ≡ length messages → AreLeft messages (count + 1) behind
+    by [] are all = absurd (omega (arith, shorter, ap length are))
+    by (message ∷ ahead) are all = record { ahead = ahead; are = first message (flat_map delimited ahead) are; all = omega (arith, all) }
+
+pub all_counted : (messages : List Bytes) (count : ℕ) (rest : Bytes) → ((message after : Bytes) → rest ≡ delimited message ++ after → ⊥) → AreLeft messages count rest → count ≡ length messages
+all_counted messages count rest none left = by left.ahead left.are left.all
+  where
+    by : (ahead : List Bytes) → rest ≡ flat_map delimited ahead → count + length ahead ≡ length messages → count ≡ length messages
+    by [] are all = omega (arith, all)
+    by (message ∷ ahead) are all = absurd (none message (flat_map delimited ahead) are)
+
+-- ---- messages of one kind
+
+pub counted_as : {X : Type 0} (text : X → Bytes) (xs : List X) (bytes : Bytes) (count : ℕ) → ((messages : List Bytes) → bytes ≡ flat_map delimited messages → count ≡ length messages) → bytes ≡ flat_map (λ x. delimited (text x)) xs → count ≡ length xs
+counted_as text xs bytes count counts is = counts (map text xs) (is ∙ sym (flat_map-map delimited text xs)) ∙ length-map xs text
