@@ -1,4 +1,5 @@
-use Rattle.std.proofs.Common.{◌≡◌, length, arith}
+use Rattle.std.proofs.Common.{length, sym, ◌∙◌, arith}
+use Rattle.std.proofs.lemmas.Bool.{eqb-true}
 use Rattle.nn_message.specs.FrameViews.{sections_seen}
 use Rattle.nn_message.proofs.SectionLemmas.{four_fill, part_taken, first_text, first_place, no_parts, four_taken}
 use Rattle.nn_message.proofs.sections.cut_sections.Goals as goal
@@ -54,10 +55,8 @@ returns-then-not-is_empty-2-clause-none c = λ s text fields.
 pub returns-clause-some : goal.returns-clause-some
 returns-clause-some c =
     let s = sections_seen (record { info = c.in_ok-info.info; strings = c.in_ok-strings.strings; inodes = c.in_ok-inodes.inodes; directories = c.in_ok-directories.directories }) in
-    let told = c.if-not-is_empty-2.ensures in
-    let also = c.if-not-is_empty.ensures in
-    let text : length c.take_section-4.new.text.now ≡ 0 = grind (arith, told) in
-    let places : length c.take_section-4.new.places.now ≡ 0 = grind (arith, also) in
+    let text = eqb-true (length c.take_section-4.new.text.now) 0 (sym c.is_empty-2.ensures ∙ c.if-not-is_empty-2.false) in
+    let places = eqb-true (length c.take_section-4.new.places.now) 0 (sym c.is_empty.ensures ∙ c.if-not-is_empty.false) in
     four_taken c.args.text.now c.args.fields.now c.take_section.new.text.now c.take_section-2.new.text.now c.take_section-3.new.text.now c.take_section-4.new.text.now
     c.take_section.new.places.now c.take_section-2.new.places.now c.take_section-3.new.places.now c.take_section-4.new.places.now s
     c.in_ok-info.ensures.some.0 c.in_ok-info.ensures.some.1 c.in_ok-strings.ensures.some.0 c.in_ok-strings.ensures.some.1
