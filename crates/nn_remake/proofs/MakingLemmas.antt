@@ -276,13 +276,16 @@ module _ {T E told : Type 0} {i : ℕ} (version : Version) (id : ℕ) (ns : Name
   pub until_imaged : {c : State} → OnlyAt told i b c (IsPublishing version id ns (disk_at b i)) → OnlyAt told i a c (FreshOrMade version id ns)
   until_imaged imaging = work_imaged version id ns (λ tells. just_lacks (disk_at b i) (began tells)) (work_began version id ns lawful bare called) imaging
 
-  module _ {c : State} (imaged : told → WasWritten version id ns i b c) (imaging : OnlyAt told i b c (IsPublishing version id ns (disk_at b i))) where
+  module _ {c : State} (imaged : told → (disk_at b i).has Current ≡ true → WasWritten version id ns i b c) (imaging : OnlyAt told i b c (IsPublishing version id ns (disk_at b i))) where
+    placed_there : told → WasWritten version id ns i b c
+    placed_there tells = imaged tells (began tells).current
+
     pub until_seen : {d : State} → OnlyAt told i c d (OldOrNew Current name.SeenTmp name.Seen (seen_text_of id) (disk_at c i)) → OnlyAt told i a d (FreshOrMade version id ns)
-    until_seen seeing = work_seen version id ns (λ tells. disk_imaged (began tells) (imaged tells)) (until_imaged imaging) seeing
+    until_seen seeing = work_seen version id ns (λ tells. disk_imaged (began tells) (placed_there tells)) (until_imaged imaging) seeing
 
     module _ {d : State} (seen : told → (disk_at c i).has Current ≡ true → Written i Current name.SeenTmp name.Seen (seen_text_of id) c d) (seeing : OnlyAt told i c d (OldOrNew Current name.SeenTmp name.Seen (seen_text_of id) (disk_at c i))) where
       lacks : told → Unversioned version id ns i d
-      lacks tells = unversioned (began tells) (reads_began (lawful tells) (bare tells) (called.effect tells).ok) (imaged tells) (seen tells ((imaged tells).disk.beside.subs Current ∙ (began tells).current))
+      lacks tells = unversioned (began tells) (reads_began (lawful tells) (bare tells) (called.effect tells).ok) (placed_there tells) (seen tells ((placed_there tells).disk.beside.subs Current ∙ (began tells).current))
 
       pub until_versioned : {e : State} {text : List ℕ} → text ≡ version_text_of version → OnlyAt told i d e (OldOrNew Current name.VersionTmp name.Version text (disk_at d i)) → OnlyAt told i a e (FreshOrMade version id ns)
       until_versioned same writing = work_versioned version id ns same lacks (until_seen seeing) writing

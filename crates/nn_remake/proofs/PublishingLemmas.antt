@@ -1,9 +1,10 @@
 -- Removing an image, and writing one: what each call does, and what a stop finds.
 use Rattle.std.proofs.Common.{◌≡◌, ◌≢◌, inl, inr, ⊎_elim, ℕ, List, [], ◌++◌, Option, Some, None, Result, Ok, Err, OnOk, refl, sym, ◌∙◌, ap, subst}
+use Rattle.std.proofs.lemmas.Bool.{cases_Bool}
 use Rattle.std.specs.Prelude.{true, is_some, if◌then◌else◌}
 use Rattle.nn_base.specs.declared.sub.Sub.TheVariants.{Current}
 use Rattle.nn_base.specs.declared.file_name.FileName.TheVariants.{Image, Md5, Md5Tmp, Ckpt}
-use Rattle.nn_host.specs.Disk.{Held, Disk, File, RemoveFile, RenameFile, after, certain, fresh_file, add_pending, with_file}
+use Rattle.nn_host.specs.Disk.{Held, Disk, File, IsSound, RemoveFile, RenameFile, after, carried_out, certain, fresh_file, add_pending, with_file}
 use Rattle.nn_host.specs.Moments.{State, disk_at}
 use Rattle.nn_host.specs.Calls.{Called, Done}
 use Rattle.nn_host.specs.Runs.{OnlyAt}
@@ -109,14 +110,22 @@ module _ {told : Type 0} {i : ℕ} (version : Version) (id : ℕ) (ns : Namespac
 abbrev pub whole_file : List ℕ → File
 whole_file bytes = record { synced = bytes; pending = [] }
 
+-- where its folder isn't there, nothing is named
+unnamed : (id : ℕ) (d : Disk) → d.file Current (Ckpt id) ≡ None → carried_out (RenameFile Current (Ckpt id) (Image id)) d ≡ d
+unnamed id d none = λ k. if is_some (none k) then with_file (with_file d Current (Ckpt id) None) Current (Image id) (none k) else d
+
 -- what the last call does
-pub work_named : {T E told : Type 0} {i : ℕ} {version : Version} {id : ℕ} {ns : Namespace} {a b c : State} {r : Result T E} (bytes : List ℕ) → IsImageUnder version id ns bytes
-    → (told → IsReady id (whole_file bytes) (whole_file (digest_of id bytes)) (disk_at a i) (disk_at b i)) → OnlyAt told i a b (IsPublishing version id ns (disk_at a i)) → Called told i (RenameFile Current (Ckpt id) (Image id)) b c r
+pub work_named : {T E told : Type 0} {i : ℕ} {version : Version} {id : ℕ} {ns : Namespace} {a b c : State} {r : Result T E} (bytes : List ℕ) → IsImageUnder version id ns bytes → (told → IsSound (disk_at b i))
+    → (told → (disk_at a i).has Current ≡ true → IsReady id (whole_file bytes) (whole_file (digest_of id bytes)) (disk_at a i) (disk_at b i)) → OnlyAt told i a b (IsPublishing version id ns (disk_at a i)) → Called told i (RenameFile Current (Ckpt id) (Image id)) b c r
     → OnlyAt told i a c (IsPublishing version id ns (disk_at a i))
-work_named {i = i} {version = version} {id = id} {ns = ns} {a = a} {b = b} bytes image is_ready work called = work_more work called
-    (λ tells p part makes.
-    let stands = placed id (whole_file bytes) (whole_file (digest_of id bytes)) fresh_file add_pending (disk_at a i) (disk_at b i) (is_ready tells) in
-    subst (IsPublishing version id ns (disk_at a i)) (sym makes) (record { beside = stands.beside; image = inr (inr (record { bytes = bytes; image = image; stands = stands.stands })) }))
+work_named {i = i} {version = version} {id = id} {ns = ns} {a = a} {b = b} bytes image sound is_ready work called = work_more work called (λ tells p part makes. elim (cases_Bool ((disk_at a i).has Current)) [
+  | inl has ↦
+      let stands = placed id (whole_file bytes) (whole_file (digest_of id bytes)) fresh_file add_pending (disk_at a i) (disk_at b i) (is_ready tells has) in
+      subst (IsPublishing version id ns (disk_at a i)) (sym makes) (record { beside = stands.beside; image = inr (inr (record { bytes = bytes; image = image; stands = stands.stands })) })
+  | inr lacks ↦
+      let none = (sound tells).files Current (Ckpt id) (p.beside.subs Current ∙ lacks) in
+      subst (IsPublishing version id ns (disk_at a i)) (sym (makes ∙ unnamed id (disk_at b i) none)) p
+])
 
 -- both small files are written, so it is ready, on the disk and as it reads
 module _ {i : ℕ} {id : ℕ} {bytes sum : List ℕ} {a b c : State} (same : sum ≡ md5 bytes) (staged : WasStaged id bytes i a b) (written : Written i Current (Md5Tmp id) (Md5 id) (md5_text_of sum id) b c) where

@@ -1,5 +1,6 @@
 -- What a stop leaves of a disk while an image is published: its rank is that of something that one could leave before.
-use Rattle.std.proofs.Common.{◌≡◌, ◌≢◌, inl, inr, ⊎_elim, ℕ, Option, Some, Result, Ok, Err, OnOk, refl, sym, ◌∙◌, subst}
+use Rattle.std.proofs.Common.{◌≡◌, ◌≢◌, inl, inr, ⊎_elim, ℕ, Option, Some, Result, Ok, Err, OnOk, refl, sym, ◌∙◌, ap, subst}
+use Rattle.std.specs.Prelude.{true}
 use Rattle.nn_base.specs.declared.sub.Sub.{Sub}
 use Rattle.nn_base.specs.declared.sub.Sub.TheVariants.{Current}
 use Rattle.nn_base.specs.declared.file_name.FileName.{FileName}
@@ -187,6 +188,10 @@ rank_of {i = i} version id ns {a = a} as_read unsound work = work_weaker work (�
 -- first only a look, and then the image is published
 pub work_then : {told : Type 0} {i : ℕ} {version : Version} {id : ℕ} {ns : Namespace} {a b c : State} → OnlyAt told i a b (λ d. d ≡ disk_at a i) → OnlyAt told i b c (IsPublishing version id ns (disk_at b i)) → OnlyAt told i a c (IsPublishing version id ns (disk_at a i))
 work_then {version = version} {id = id} {ns = ns} p q = work_trans (work_same version id ns p) (work_weaker q (λ tells d is. subst (λ (x : Disk). IsPublishing version id ns x d) (p.ends tells) is))
+
+-- a folder that is there stays
+pub still_has : {old d : Disk} → d ≡ old → old.has Current ≡ true → d.has Current ≡ true
+still_has same has = ap (λ (x : Disk). x.has Current) same ∙ has
 
 pub written_then : {T : Type 0} (i : ℕ) (version : Version) (id : ℕ) (ns : Namespace) (a b c : State) (r : Result T MakeFault) → disk_at b i ≡ disk_at a i → b.reads i ≡ a.reads i → OnOk r (WasWritten version id ns i b c) → OnOk r (IsPublished version id ns i a c)
 written_then i version id ns a b c (Ok v) disk reads w = inl (record {

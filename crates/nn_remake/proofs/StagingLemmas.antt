@@ -60,22 +60,22 @@ all_staged {i} {id} {bytes} {a} {b} {c} filled_so done = record {
 
 -- ---- while the pieces are written
 
--- some bytes are in the file and in the digest, and the others are still to come
+-- Some bytes are in the file, if its folder is there, and in the digest, and the others are still to come.
 pub record Filling (told : Type 0) (id : ℕ) (whole : List ℕ) (i : ℕ) (old new : State) (hasher : Hasher) (left : List ℕ) : Type 0 where
   pub so_far : List ℕ
   pub split : whole ≡ so_far ++ left
   pub held : Holds hasher so_far
-  pub filled : told → WasFilled id so_far i old new
+  pub filled : told → (disk_at old i).has Current ≡ true → WasFilled id so_far i old new
   pub work : OnlyAt told i old new (BesideFile (Ckpt id) (disk_at old i))
   pub counted : faults_at new i ≡ faults_at old i
 
 module _ {T E told : Type 0} {id : ℕ} {whole : List ℕ} {i : ℕ} where
-  pub filling_begun : {a b : State} {hasher : Hasher} {v : T} → (told → IsLawful a) → (told → (disk_at a i).has Current ≡ true) → Holds hasher [] → Called {E = E} told i (MakeFile Current (Ckpt id)) a b (Ok v) → Filling told id whole i a b hasher whole
-  filling_begun lawful has held called = record {
+  pub filling_begun : {a b : State} {hasher : Hasher} {v : T} → (told → IsLawful a) → Holds hasher [] → Called {E = E} told i (MakeFile Current (Ckpt id)) a b (Ok v) → Filling told id whole i a b hasher whole
+  filling_begun lawful held called = record {
     so_far = [];
     split = refl;
     held = held;
-    filled = λ tells. none_filled (lawful tells) (has tells) (called.effect tells).ok;
+    filled = λ tells has. none_filled (lawful tells) has (called.effect tells).ok;
     work = work_made called;
     counted = called.counted.ok;
   }
@@ -86,7 +86,7 @@ module _ {T E told : Type 0} {id : ℕ} {whole : List ℕ} {i : ℕ} where
     so_far = f.so_far ++ piece;
     split = f.split ∙ ap (λ (l : List ℕ). f.so_far ++ l) split ∙ sym (append_assoc f.so_far piece rest);
     held = held f.so_far f.held;
-    filled = λ tells. subst (λ (l : List ℕ). WasFilled id (f.so_far ++ l) i a c) same (more_filled (f.filled tells) (called.effect tells).ok);
+    filled = λ tells has. subst (λ (l : List ℕ). WasFilled id (f.so_far ++ l) i a c) same (more_filled (f.filled tells has) (called.effect tells).ok);
     work = work_added f.work called;
     counted = called.counted.ok ∙ f.counted;
   }
@@ -98,8 +98,8 @@ module _ {told : Type 0} {id : ℕ} {whole : List ℕ} {i : ℕ} {a b : State} {
   pub all_held : Holds hasher whole
   all_held = subst (Holds hasher) all_there f.held
 
-  pub all_filled : told → WasFilled id whole i a b
-  all_filled tells = subst (λ (bytes : List ℕ). WasFilled id bytes i a b) all_there (f.filled tells)
+  pub all_filled : told → (disk_at a i).has Current ≡ true → WasFilled id whole i a b
+  all_filled tells has = subst (λ (bytes : List ℕ). WasFilled id bytes i a b) all_there (f.filled tells has)
 
 -- no piece is left where the last one was empty
 pub none_left : (left piece : List ℕ) → length piece ≡ min 65536 (length left) → nat_lt 0 (length piece) ≡ false → left ≡ []

@@ -26,7 +26,8 @@ use std::alloc::Global;
 /// nothing is done; whatever else stands under its name is replaced.
 ///
 /// The version is what VERSION of the folder says, if it has one. An image that is there is read whole, so that for a while
-/// there is a second tree in memory. After an `Err` the old image or the new one may be there, or none.
+/// there is a second tree in memory. After an `Err` the old image or the new one may be there, or none. Without `current`
+/// nothing is written, and `Ok` is answered.
 pub fn publish<H: Host, T: Tree>(
     alloc: Global,
     host: &mut H,
@@ -36,10 +37,9 @@ pub fn publish<H: Host, T: Tree>(
     version: &Version,
 ) -> Result<(), MakeFault>
     requires below { i.0 < (H.state host.old).count }
-    requires there { H.told → (disk_at (H.state host.old) i.0).has Current ≡ true }
     requires imaged { IsImaged (T.meaning tree.now) }
-    ensures ok { H.told → OnOk result (IsPublished version.now id (T.meaning tree.now) i.0 (H.state host.old) (H.state host.new)) }
-    ensures intact { H.told → IsOnlyOf version.now id (T.meaning tree.now) i.0 (H.state host.old) → OnOk result (ReadsIntact version.now id (T.meaning tree.now) i.0 (H.state host.new)) }
+    ensures ok { H.told → (disk_at (H.state host.old) i.0).has Current ≡ true → OnOk result (IsPublished version.now id (T.meaning tree.now) i.0 (H.state host.old) (H.state host.new)) }
+    ensures intact { H.told → (disk_at (H.state host.old) i.0).has Current ≡ true → IsOnlyOf version.now id (T.meaning tree.now) i.0 (H.state host.old) → OnOk result (ReadsIntact version.now id (T.meaning tree.now) i.0 (H.state host.new)) }
     ensures any_moment { OnlyAt H.told i.0 (H.state host.old) (H.state host.new) (IsPublishing version.now id (T.meaning tree.now) (disk_at (H.state host.old) i.0)) }
     ensures rank { OnlyAt H.told i.0 (H.state host.old) (H.state host.new) (IsRanked version.now (record { last = id; ns = T.meaning tree.now }) (disk_at (H.state host.old) i.0)) }
     ensures cause { IsCountedBy i.0 (H.state host.old) (H.state host.new) result }
@@ -82,9 +82,8 @@ fn replace_image<H: Host, T: Tree>(
     version: &Version,
 ) -> Result<(), MakeFault>
     requires below { i.0 < (H.state host.old).count }
-    requires there { H.told → (disk_at (H.state host.old) i.0).has Current ≡ true }
     requires imaged { IsImaged (T.meaning tree.now) }
-    ensures ok { H.told → OnOk result (WasWritten version.now id (T.meaning tree.now) i.0 (H.state host.old) (H.state host.new)) }
+    ensures ok { H.told → (disk_at (H.state host.old) i.0).has Current ≡ true → OnOk result (WasWritten version.now id (T.meaning tree.now) i.0 (H.state host.old) (H.state host.new)) }
     ensures any_moment { OnlyAt H.told i.0 (H.state host.old) (H.state host.new) (IsPublishing version.now id (T.meaning tree.now) (disk_at (H.state host.old) i.0)) }
     ensures cause { IsCountedBy i.0 (H.state host.old) (H.state host.new) result }
 {
@@ -113,10 +112,9 @@ pub fn write_image<H: Host, T: Tree>(
     version: &Version,
 ) -> Result<(), MakeFault>
     requires below { i.0 < (H.state host.old).count }
-    requires there { H.told → (disk_at (H.state host.old) i.0).has Current ≡ true }
     requires none { H.told → (disk_at (H.state host.old) i.0).file Current (Image id) ≡ None }
     requires imaged { IsImaged (T.meaning tree.now) }
-    ensures ok { H.told → OnOk result (WasWritten version.now id (T.meaning tree.now) i.0 (H.state host.old) (H.state host.new)) }
+    ensures ok { H.told → (disk_at (H.state host.old) i.0).has Current ≡ true → OnOk result (WasWritten version.now id (T.meaning tree.now) i.0 (H.state host.old) (H.state host.new)) }
     ensures any_moment { OnlyAt H.told i.0 (H.state host.old) (H.state host.new) (IsPublishing version.now id (T.meaning tree.now) (disk_at (H.state host.old) i.0)) }
     ensures cause { IsCountedBy i.0 (H.state host.old) (H.state host.new) result }
 {

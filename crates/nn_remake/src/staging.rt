@@ -33,11 +33,10 @@ pub fn stage<H: Host, T: Tree>(
     version: &Version,
 ) -> Result<[u8; 16], MakeFault>
     requires below { i.0 < (H.state host.old).count }
-    requires there { H.told → (disk_at (H.state host.old) i.0).has Current ≡ true }
     requires imaged { IsImaged (T.meaning tree.now) }
     ensures image { OnOk result (IsImageUnder version.now id (T.meaning tree.now) (image_under version.now id (T.meaning tree.now))) }
     ensures digest { IfOk result (λ digest. digest ≡ md5 (image_under version.now id (T.meaning tree.now))) }
-    ensures ok { H.told → OnOk result (WasStaged id (image_under version.now id (T.meaning tree.now)) i.0 (H.state host.old) (H.state host.new)) }
+    ensures ok { H.told → (disk_at (H.state host.old) i.0).has Current ≡ true → OnOk result (WasStaged id (image_under version.now id (T.meaning tree.now)) i.0 (H.state host.old) (H.state host.new)) }
     ensures any_moment { OnlyAt H.told i.0 (H.state host.old) (H.state host.new) (BesideFile (Ckpt id) (disk_at (H.state host.old) i.0)) }
     ensures cause { IsCountedBy i.0 (H.state host.old) (H.state host.new) result }
 {
@@ -57,10 +56,9 @@ fn fill<H: Host, T: Tree>(
     saver: &mut Saver,
 ) -> Result<[u8; 16], MakeFault>
     requires below { i.0 < (H.state host.old).count }
-    requires there { H.told → (disk_at (H.state host.old) i.0).has Current ≡ true }
     requires saves { Saves saver.old (T.meaning tree.now) (T.has tree.now) (T.place tree.now) }
     ensures digest { IfOk result (λ digest. digest ≡ md5 (left saver.old (T.meaning tree.now) (T.has tree.now) (T.place tree.now))) }
-    ensures ok { H.told → OnOk result (WasFilled id (left saver.old (T.meaning tree.now) (T.has tree.now) (T.place tree.now)) i.0 (H.state host.old) (H.state host.new)) }
+    ensures ok { H.told → (disk_at (H.state host.old) i.0).has Current ≡ true → OnOk result (WasFilled id (left saver.old (T.meaning tree.now) (T.has tree.now) (T.place tree.now)) i.0 (H.state host.old) (H.state host.new)) }
     ensures any_moment { OnlyAt H.told i.0 (H.state host.old) (H.state host.new) (BesideFile (Ckpt id) (disk_at (H.state host.old) i.0)) }
     ensures cause { IsCountedBy i.0 (H.state host.old) (H.state host.new) result }
 {

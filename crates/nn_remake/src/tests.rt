@@ -38,14 +38,10 @@ const KEEPS: [Keep; 4] = [Keep::Synced, Keep::Half, Keep::All, Keep::Torn];
 
 const PARTS: [Part; 3] = [Part::Nothing, Part::Half, Part::All];
 
-// Publishes the empty namespace at the id 5 in directory 0, if that has `current`.
+// Publishes the empty namespace at the id 5 in directory 0.
 #[tactic(auto, using(nn_image::proofs::EmptyLemmas::imaged_empty))]
 fn publish_5<H: Host>(alloc: Global, host: &mut H) -> Result<(), MakeFault> {
     if host.count() == 0 {
-        return Err(MakeFault::Memory);
-    }
-    let there = host.has_sub(DirNo(0), Sub::Current)?;
-    if !there {
         return Err(MakeFault::Memory);
     }
     let tree = PlainTree::new(alloc)?;
@@ -146,8 +142,18 @@ fn a_published_image_reads_back_and_isnt_published_again(rt: HostRuntime) -> Res
     assert!(rt; read.is_ok_and(|tree| tree.counters().inode == 16385));
     let before = host.calls();
     assert!(rt; publish_5(alloc, &mut host).is_ok());
-    // A look at the folder, and three at each of the two files.
-    assert!(rt; host.calls().saturating_sub(before) == 7);
+    // Three looks at each of the two files.
+    assert!(rt; host.calls().saturating_sub(before) == 6);
+    Ok(())
+}
+
+#[test]
+fn without_current_nothing_is_published(rt: HostRuntime) -> Result<(), Fail> {
+    let alloc = rt.alloc();
+    let mut host = MemHost::new(alloc, 1, Vec::new(alloc))?;
+    assert!(rt; publish_5(alloc, &mut host).is_ok());
+    assert!(rt; host.count() == 1);
+    assert!(rt; host.has_sub(DirNo(0), Sub::Current) == Ok(false));
     Ok(())
 }
 

@@ -10,9 +10,6 @@ returns-in_err-text-clause-any_moment g c = work_refl (λ tells. inl (bare_fresh
 pub returns-in_err-make_sub-clause-any_moment : goal.returns-in_err-make_sub-clause-any_moment
 returns-in_err-make_sub-clause-any_moment g c = work_began c.args.version.now c.args.id (g.T.Tree.meaning c.args.tree.now) (λ tells. g.met.H.Host.lawful tells c.args.host.now) c.requires.bare c.in_err-make_sub.ensures
 
-pub write_image-requires-clause-there : goal.write_image-requires-clause-there
-write_image-requires-clause-there g c = λ tells. (began c.args.version.now c.args.id (g.T.Tree.meaning c.args.tree.now) (λ tells. g.met.H.Host.lawful tells c.args.host.now) c.requires.bare c.in_ok-make_sub.ensures tells).current
-
 pub write_image-requires-clause-none : goal.write_image-requires-clause-none
 write_image-requires-clause-none g c = λ tells. (began c.args.version.now c.args.id (g.T.Tree.meaning c.args.tree.now) (λ tells. g.met.H.Host.lawful tells c.args.host.now) c.requires.bare c.in_ok-make_sub.ensures tells).image_files.image
 

@@ -1,7 +1,7 @@
 use Rattle.nn_image.proofs.FirstFaultLemmas.{none_of_an_image}
 use Rattle.nn_image.proofs.LoadLemmas.{one_image}
 use Rattle.nn_chain.proofs.UnsoundLemmas.{unsound_not_intact}
-use Rattle.nn_remake.proofs.RankLemmas.{rank_of, rank_of_same, work_same, work_then, written_then, written_intact, was_intact}
+use Rattle.nn_remake.proofs.RankLemmas.{rank_of, rank_of_same, work_same, work_then, still_has, written_then, written_intact, was_intact}
 use Rattle.nn_remake.proofs.publishing.publish.Goals as goal
 
 pub returns-in_err-has_intact-clause-any_moment : goal.returns-in_err-has_intact-clause-any_moment
@@ -26,15 +26,15 @@ returns-clause-rank g c = rank_of c.args.version.now c.args.id (g.T.Tree.meaning
     (work_then c.in_ok-has_intact.ensures.any_moment c.replace_image.ensures.any_moment)
 
 pub returns-clause-ok : goal.returns-clause-ok
-returns-clause-ok g c = λ tells. written_then c.args.i.0 c.args.version.now c.args.id (g.T.Tree.meaning c.args.tree.now)
+returns-clause-ok g c = λ tells has. written_then c.args.i.0 c.args.version.now c.args.id (g.T.Tree.meaning c.args.tree.now)
     (g.H.Host.state c.args.host.now) (g.H.Host.state c.has_intact.new.host) (g.H.Host.state c.replace_image.new.host) _
-    (c.in_ok-has_intact.ensures.any_moment.ends tells) (c.in_ok-has_intact.ensures.kept tells) (c.replace_image.ensures.ok tells)
+    (c.in_ok-has_intact.ensures.any_moment.ends tells) (c.in_ok-has_intact.ensures.kept tells) (c.replace_image.ensures.ok tells (still_has (c.in_ok-has_intact.ensures.any_moment.ends tells) has))
 
 pub returns-then-branch-clause-intact : goal.returns-then-branch-clause-intact
-returns-then-branch-clause-intact g c = λ tells only. was_intact c.args.i.0 c.args.version.now c.args.id (g.T.Tree.meaning c.args.tree.now)
+returns-then-branch-clause-intact g c = λ tells has only. was_intact c.args.i.0 c.args.version.now c.args.id (g.T.Tree.meaning c.args.tree.now)
     (g.H.Host.state c.args.host.now) (g.H.Host.state c.has_intact.new.host)
     (c.in_ok-has_intact.ensures.there tells c.if-branch.true) (c.in_ok-has_intact.ensures.kept tells) only
 
 pub returns-clause-intact : goal.returns-clause-intact
-returns-clause-intact g c = λ tells only. written_intact c.args.i.0 c.args.version.now c.args.id (g.T.Tree.meaning c.args.tree.now)
-    (g.H.Host.state c.has_intact.new.host) (g.H.Host.state c.replace_image.new.host) _ (c.replace_image.ensures.ok tells)
+returns-clause-intact g c = λ tells has only. written_intact c.args.i.0 c.args.version.now c.args.id (g.T.Tree.meaning c.args.tree.now)
+    (g.H.Host.state c.has_intact.new.host) (g.H.Host.state c.replace_image.new.host) _ (c.replace_image.ensures.ok tells (still_has (c.in_ok-has_intact.ensures.any_moment.ends tells) has))

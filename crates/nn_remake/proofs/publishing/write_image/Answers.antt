@@ -9,18 +9,20 @@ returns-in_err-write_digest-clause-any_moment g c = work_summed c.args.version.n
 
 pub returns-in_err-rename_file-clause-any_moment : goal.returns-in_err-rename_file-clause-any_moment
 returns-in_err-rename_file-clause-any_moment g c = work_named _ c.in_ok-digest.ensures.image
-    (λ tells. let staged = c.in_ok-digest.ensures.ok tells in disk_ready c.in_ok-digest.ensures.digest staged (c.in_ok-write_digest.ensures.ok tells (still_there (c.requires.there tells) staged)))
+    (λ tells. (g.met.H.Host.lawful tells c.write_digest.new.host).disks c.args.i.0)
+    (λ tells has. let staged = c.in_ok-digest.ensures.ok tells has in disk_ready c.in_ok-digest.ensures.digest staged (c.in_ok-write_digest.ensures.ok tells (still_there has staged)))
     (work_summed c.args.version.now c.args.id (g.T.Tree.meaning c.args.tree.now) c.requires.none c.in_ok-digest.ensures.any_moment c.in_ok-write_digest.ensures.any_moment)
     c.in_err-rename_file.ensures
 
 pub returns-clause-any_moment : goal.returns-clause-any_moment
 returns-clause-any_moment g c = work_named _ c.in_ok-digest.ensures.image
-    (λ tells. let staged = c.in_ok-digest.ensures.ok tells in disk_ready c.in_ok-digest.ensures.digest staged (c.in_ok-write_digest.ensures.ok tells (still_there (c.requires.there tells) staged)))
+    (λ tells. (g.met.H.Host.lawful tells c.write_digest.new.host).disks c.args.i.0)
+    (λ tells has. let staged = c.in_ok-digest.ensures.ok tells has in disk_ready c.in_ok-digest.ensures.digest staged (c.in_ok-write_digest.ensures.ok tells (still_there has staged)))
     (work_summed c.args.version.now c.args.id (g.T.Tree.meaning c.args.tree.now) c.requires.none c.in_ok-digest.ensures.any_moment c.in_ok-write_digest.ensures.any_moment)
     c.in_ok-rename_file.ensures
 
 pub returns-clause-ok : goal.returns-clause-ok
-returns-clause-ok g c = λ tells.
-    let staged = c.in_ok-digest.ensures.ok tells in
-    let written = c.in_ok-write_digest.ensures.ok tells (still_there (c.requires.there tells) staged) in
+returns-clause-ok g c = λ tells has.
+    let staged = c.in_ok-digest.ensures.ok tells has in
+    let written = c.in_ok-write_digest.ensures.ok tells (still_there has staged) in
     was_written _ c.in_ok-digest.ensures.image (disk_ready c.in_ok-digest.ensures.digest staged written) (reads_ready c.in_ok-digest.ensures.digest staged written) (c.in_ok-rename_file.ensures.effect tells).ok

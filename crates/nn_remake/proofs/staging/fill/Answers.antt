@@ -8,7 +8,7 @@ returns-in_err-make_file-clause-any_moment g c = work_made c.in_err-make_file.en
 pub piece-init : goal.piece-init
 piece-init g c = record {
   saves = c.requires.saves;
-  filling = filling_begun (λ tells. g.met.H.Host.lawful tells c.args.host.now) c.requires.there c.new-hasher.ensures c.in_ok-make_file.ensures;
+  filling = filling_begun (λ tells. g.met.H.Host.lawful tells c.args.host.now) c.new-hasher.ensures c.in_ok-make_file.ensures;
 }
 
 pub piece-preserved : goal.piece-preserved

@@ -8,10 +8,10 @@ pub returns-in_err-sync-clause-any_moment : goal.returns-in_err-sync-clause-any_
 returns-in_err-sync-clause-any_moment g c = work_synced c.in_ok-digest.ensures.any_moment c.in_err-sync.ensures
 
 pub returns-clause-ok : goal.returns-clause-ok
-returns-clause-ok g c = λ tells.
+returns-clause-ok g c = λ tells has.
     let whole : left c.in_ok-saver.saver (g.T.Tree.meaning c.args.tree.now) (g.T.Tree.has c.args.tree.now) (g.T.Tree.place c.args.tree.now) ≡ image_under c.args.version.now c.args.id (g.T.Tree.meaning c.args.tree.now) = search rules in
     subst (λ (bytes : List ℕ). WasStaged c.args.id bytes c.args.i.0 (g.H.Host.state c.args.host.now) (g.H.Host.state c.sync.new.self)) whole
-    (all_staged (c.in_ok-digest.ensures.ok tells) (c.in_ok-sync.ensures.effect tells).ok)
+    (all_staged (c.in_ok-digest.ensures.ok tells has) (c.in_ok-sync.ensures.effect tells).ok)
 
 pub returns-clause-any_moment : goal.returns-clause-any_moment
 returns-clause-any_moment g c = work_synced c.in_ok-digest.ensures.any_moment c.in_ok-sync.ensures
