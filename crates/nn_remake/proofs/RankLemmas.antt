@@ -193,14 +193,18 @@ work_then {version = version} {id = id} {ns = ns} p q = work_trans (work_same ve
 pub still_has : {old d : Disk} → d ≡ old → old.has Current ≡ true → d.has Current ≡ true
 still_has same has = ap (λ (x : Disk). x.has Current) same ∙ has
 
-pub written_then : {T : Type 0} (i : ℕ) (version : Version) (id : ℕ) (ns : Namespace) (a b c : State) (r : Result T MakeFault) → disk_at b i ≡ disk_at a i → b.reads i ≡ a.reads i → OnOk r (WasWritten version id ns i b c) → OnOk r (IsPublished version id ns i a c)
-written_then i version id ns a b c (Ok v) disk reads w = inl (record {
-  bytes = w.bytes;
-  image = w.image;
-  disk = subst (λ (x : Disk). Placed id (certain (Some w.bytes)) (certain (Some (digest_of id w.bytes))) x (disk_at c i)) disk w.disk;
-  reads = subst (λ (x : Reads). Placed id (Some w.bytes) (Some (digest_of id w.bytes)) x (c.reads i)) reads w.reads;
+pub written_then : {T : Type 0} (i : ℕ) (version : Version) (id : ℕ) (ns : Namespace) (a b c : State) (r : Result T MakeFault) → ¬ HasIntact (folder_at (a.reads i) Current) version id → disk_at b i ≡ disk_at a i → b.reads i ≡ a.reads i
+    → OnOk r (WasWritten version id ns i b c) → OnOk r (IsPublished version id ns i a c)
+written_then i version id ns a b c (Ok v) unsound disk reads w = inl (record {
+  unsound = unsound;
+  written = record {
+    bytes = w.bytes;
+    image = w.image;
+    disk = subst (λ (x : Disk). Placed id (certain (Some w.bytes)) (certain (Some (digest_of id w.bytes))) x (disk_at c i)) disk w.disk;
+    reads = subst (λ (x : Reads). Placed id (Some w.bytes) (Some (digest_of id w.bytes)) x (c.reads i)) reads w.reads;
+  };
 })
-written_then i version id ns a b c (Err fault) disk reads w = tt
+written_then i version id ns a b c (Err fault) unsound disk reads w = tt
 
 pub written_intact : {T : Type 0} (i : ℕ) (version : Version) (id : ℕ) (ns : Namespace) (b c : State) (r : Result T MakeFault) → OnOk r (WasWritten version id ns i b c) → OnOk r (ReadsIntact version id ns i c)
 written_intact i version id ns b c (Ok v) w = record { bytes = w.bytes; there = w.reads.stands.image; digest = w.reads.stands.digest; image = w.image }

@@ -14,8 +14,13 @@ pub record WasThere (version : Version) (id : ℕ) (i : ℕ) (old new : State) :
   pub disk : disk_at new i ≡ disk_at old i
   pub reads : new.reads i ≡ old.reads i
 
+-- no intact image of this id was there, and this one was written
+pub record WasMissing (version : Version) (id : ℕ) (ns : Namespace) (i : ℕ) (old new : State) : Type 0 where
+  pub unsound : ¬ HasIntact (folder_at (old.reads i) Current) version id
+  pub written : WasWritten version id ns i old new
+
 abbrev pub IsPublished : Version → ℕ → Namespace → ℕ → State → State → Type 0
-IsPublished version id ns i old new = WasWritten version id ns i old new ⊎ WasThere version id i old new
+IsPublished version id ns i old new = WasMissing version id ns i old new ⊎ WasThere version id i old new
 
 -- an intact image of this id, if there is one in `current`, is of this namespace
 abbrev pub IsOnlyOf : Version → ℕ → Namespace → ℕ → State → Type 0

@@ -28,6 +28,7 @@ returns-clause-rank g c = rank_of c.args.version.now c.args.id (g.T.Tree.meaning
 pub returns-clause-ok : goal.returns-clause-ok
 returns-clause-ok g c = λ tells has. written_then c.args.i.0 c.args.version.now c.args.id (g.T.Tree.meaning c.args.tree.now)
     (g.H.Host.state c.args.host.now) (g.H.Host.state c.has_intact.new.host) (g.H.Host.state c.replace_image.new.host) _
+    (let is = c.in_ok-has_intact.ensures.unsound tells c.if-branch.false in unsound_not_intact none_of_an_image one_image _ _ _ is.0 is.1)
     (c.in_ok-has_intact.ensures.any_moment.ends tells) (c.in_ok-has_intact.ensures.kept tells) (c.replace_image.ensures.ok tells (still_has (c.in_ok-has_intact.ensures.any_moment.ends tells) has))
 
 pub returns-then-branch-clause-intact : goal.returns-then-branch-clause-intact
