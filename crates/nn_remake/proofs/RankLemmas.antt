@@ -1,16 +1,18 @@
 -- What a stop leaves of a disk while an image is published: its rank is that of something that one could leave before.
-use Rattle.std.proofs.Common.{◌≡◌, ◌≢◌, inl, inr, ⊎_elim, ℕ, Option, Some, Result, Ok, Err, OnOk, refl, sym, ◌∙◌, ap, subst}
-use Rattle.std.specs.Prelude.{true}
+use Rattle.std.proofs.Common.{◌≡◌, ◌≢◌, inl, inr, ⊎_elim, ℕ, Option, Some, Result, Ok, Err, OnOk, None, refl, sym, ◌∙◌, ap, subst}
+use Rattle.std.proofs.lemmas.Bool.{cases_Bool}
+use Rattle.std.specs.Prelude.{true, false}
 use Rattle.nn_base.specs.declared.sub.Sub.{Sub}
 use Rattle.nn_base.specs.declared.sub.Sub.TheVariants.{Current}
 use Rattle.nn_base.specs.declared.file_name.FileName.{FileName}
 use Rattle.nn_base.specs.declared.file_name.FileName.TheVariants.{Image, Md5, Md5Tmp, Ckpt}
 use Rattle.nn_base.proofs.NamesLemmas.{sub_tells, file_tells}
 use Rattle.nn_host.specs.Disk.{Held, Disk, Reads, File, Leaves, LeavesFile, certain, with_file}
-use Rattle.nn_host.specs.Moments.{State, disk_at}
+use Rattle.nn_host.specs.Moments.{State, IsLawful, disk_at}
 use Rattle.nn_host.specs.Runs.{OnlyAt}
 use Rattle.nn_host.proofs.CleanLemmas.{sure_left}
 use Rattle.nn_host.proofs.FilesLemmas.{there, beside}
+use Rattle.nn_host.proofs.LawfulLemmas.{unread}
 use Rattle.nn_host.proofs.WorkLemmas.{work_trans, work_weaker}
 use Rattle.nn_marks.specs.declared.version.Version.{Version}
 use Rattle.nn_tree.specs.Namespace.{Namespace}
@@ -21,7 +23,7 @@ use Rattle.nn_chain.specs.Fair.{IsFair}
 use Rattle.nn_remake.specs.declared.fault.MakeFault.{MakeFault}
 use Rattle.nn_remake.specs.Publishing.{BesideImage, Placed, IsPublishing, IsWhole, WasWritten, digest_of}
 use Rattle.nn_remake.specs.Published.{IsPublished, IsOnlyOf, ReadsIntact}
-use Rattle.nn_remake.specs.Rank.{IsRanked}
+use Rattle.nn_remake.specs.Rank.{IsRanked, KeepsRank, ReadsRanked}
 use Rattle.nn_remake.proofs.BesideLemmas.{beside_refl, beside_trans, beside_set, of_image, of_digest, of_ckpt, of_tmp}
 use Rattle.nn_remake.proofs.LeftLemmas.{none_left}
 use Rattle.nn_remake.proofs.ChainLemmas.{SameBut, not_segment, rank_without, rank_with, rank_same}
@@ -213,3 +215,25 @@ written_intact i version id ns b c (Err fault) w = tt
 -- an intact image that was there
 pub was_intact : (i : ℕ) (version : Version) (id : ℕ) (ns : Namespace) (a b : State) → HasIntact (folder_at (a.reads i) Current) version id → b.reads i ≡ a.reads i → IsOnlyOf version id ns i a → ReadsIntact version id ns i b
 was_intact i version id ns a b (found, intact) reads only = subst (λ (r : Reads). IsIntact (folder_at r Current) version id ns) (sym reads) (subst (IsIntact (folder_at (a.reads i) Current) version id) (only found intact) intact)
+
+-- ---- as it reads
+
+-- nothing reads in a folder that isn't there
+none_read : (i : ℕ) (s : State) → IsLawful s → (disk_at s i).has Current ≡ false → (n : FileName) → (s.reads i).file Current n ≡ None
+none_read i s lawful lacks n = unread (disk_at s i) (s.reads i) Current n (lawful.reads i) (lawful.disks i) lacks
+
+pub ranked_then : {T : Type 0} (i : ℕ) (version : Version) (id : ℕ) (ns : Namespace) (a b c : State) (r : Result T MakeFault) → IsLawful a → IsLawful c → ¬ HasIntact (folder_at (a.reads i) Current) version id
+    → (disk_at c i).has Current ≡ (disk_at a i).has Current → b.reads i ≡ a.reads i → ((disk_at a i).has Current ≡ true → OnOk r (WasWritten version id ns i b c)) → OnOk r (ReadsRanked version (record { last = id; ns = ns }) i a c)
+ranked_then i version id ns a b c (Ok v) before after unsound has reads written = elim (cases_Bool ((disk_at a i).has Current)) [
+  | inl there ↦
+      let w = written there in
+      let beside = subst (λ (x : Reads). BesideImage id x (c.reads i)) reads w.reads.beside in
+      rank_with version id (folder_at (a.reads i) Current) (folder_at (c.reads i) Current) (same_but beside) unsound ns (written_intact i version id ns b c (Ok v) w)
+  | inr lacks ↦
+      let none = none_read i c after (has ∙ lacks) in
+      rank_without version id (folder_at (a.reads i) Current) (folder_at (c.reads i) Current) (record { others = λ n w x y z. none n ∙ sym (none_read i a before lacks n) }) unsound (none (Image id)) (record { last = id; ns = ns })
+]
+ranked_then i version id ns a b c (Err fault) before after unsound has reads written = tt
+
+pub ranked_still : (i : ℕ) (version : Version) (id : ℕ) (ns : Namespace) (a b : State) → b.reads i ≡ a.reads i → ReadsRanked version (record { last = id; ns = ns }) i a b
+ranked_still i version id ns a b reads = subst (λ (r : Reads). KeepsRank version (record { last = id; ns = ns }) (folder_at (a.reads i) Current) (folder_at r Current)) (sym reads) (rank_same version (record { last = id; ns = ns }) (folder_at (a.reads i) Current))

@@ -2,6 +2,7 @@
 use Rattle.std.specs.Prelude.{◌⊎◌, ℕ, List}
 use Rattle.nn_base.specs.declared.sub.Sub.TheVariants.{Current}
 use Rattle.nn_host.specs.Disk.{Disk, Reads, Leaves}
+use Rattle.nn_host.specs.Moments.{State}
 use Rattle.nn_marks.specs.declared.version.Version.{Version}
 use Rattle.nn_tree.specs.Namespace.{Namespace}
 use Rattle.nn_record.specs.declared.transaction.Record.{Record}
@@ -42,3 +43,7 @@ pub record LeftRanked (version : Version) (at : Reached) (old d : Disk) (c : Rea
 
 pub record IsRanked (version : Version) (at : Reached) (old d : Disk) : Type 0 where
   pub left : (c : Reads) → Leaves d c → LeftRanked version at old d c
+
+-- the rank stays, as the folder reads before and after
+abbrev pub ReadsRanked : Version → Reached → ℕ → State → State → Type 0
+ReadsRanked version at i old new = KeepsRank version at (folder_at (old.reads i) Current) (folder_at (new.reads i) Current)

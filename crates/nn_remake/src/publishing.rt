@@ -11,7 +11,7 @@ ghost use Rattle.nn_chain.specs.Images.{HasIntact, IsUnsound};
 ghost use Rattle.nn_remake.specs.Counts.{IsCountedBy};
 ghost use Rattle.nn_remake.specs.Publishing.{IsRemoving, IsPublishing, WasRemoved, WasWritten};
 ghost use Rattle.nn_remake.specs.Published.{IsPublished, IsOnlyOf, ReadsIntact};
-ghost use Rattle.nn_remake.specs.Rank.{IsRanked};
+ghost use Rattle.nn_remake.specs.Rank.{IsRanked, ReadsRanked};
 
 use crate::fault::MakeFault;
 use crate::staging::{stage, write_digest};
@@ -42,6 +42,7 @@ pub fn publish<H: Host, T: Tree>(
     ensures intact { H.told → (disk_at (H.state host.old) i.0).has Current ≡ true → IsOnlyOf version.now id (T.meaning tree.now) i.0 (H.state host.old) → OnOk result (ReadsIntact version.now id (T.meaning tree.now) i.0 (H.state host.new)) }
     ensures any_moment { OnlyAt H.told i.0 (H.state host.old) (H.state host.new) (IsPublishing version.now id (T.meaning tree.now) (disk_at (H.state host.old) i.0)) }
     ensures rank { OnlyAt H.told i.0 (H.state host.old) (H.state host.new) (IsRanked version.now (record { last = id; ns = T.meaning tree.now }) (disk_at (H.state host.old) i.0)) }
+    ensures rank_after { H.told → OnOk result (ReadsRanked version.now (record { last = id; ns = T.meaning tree.now }) i.0 (H.state host.old) (H.state host.new)) }
     ensures cause { IsCountedBy i.0 (H.state host.old) (H.state host.new) result }
 {
     if has_intact::<H, T>(alloc, host, i, id, version)? {
