@@ -17,11 +17,11 @@ use Rattle.nn_marks.proofs.SeenLemmas.{number_in-decimal, seen_only}
 use Rattle.nn_marks.proofs.VersionTextLemmas.{reads_back}
 use Rattle.nn_tree.specs.Namespace.{empty_namespace}
 use Rattle.nn_chain.specs.Folder.{Folder, HasSeen}
-use Rattle.nn_remake.proofs.LeftLemmas.{made_left, made_intact, made_no_later, made_no_segment}
+pub use Rattle.nn_remake.proofs.LeftLemmas.{fresh_left}
+use Rattle.nn_remake.proofs.LeftLemmas.{seven_left, made_left, made_intact, made_no_later, made_no_segment}
 use Rattle.nn_pick.proofs.AloneLemmas.{opens_alone}
 use Rattle.nn_open.specs.Formatted.{IsFormatted, ReadsFormatted, FreshOrNew, LeftFreshOrNew, OpensEmpty}
 use Rattle.nn_open.specs.Answers.{AllFresh, AllFormatted, EachFreshOrNew, StopsFreshOrOpen, first_unformattable}
-use Rattle.nn_open.proofs.StepLemmas.{seven_left}
 
 pub formatted_left : (d : Disk) (c : Reads) → Leaves d c → (version : Stamp) → IsFormatted version d → ReadsFormatted version c
 formatted_left d c leaves version is = made_left version 0 empty_namespace d c is leaves
@@ -52,15 +52,12 @@ formatted_opens version layout c is = opens_alone c version 0 empty_namespace (r
 -- ---- what a stop leaves
 
 module _ (d : Disk) (c : Reads) (leaves : Leaves d c) where
-  pub fresh_left : FitsFresh d → FitsFresh c
-  fresh_left fresh = ap table_of (seven_left d c leaves) ∙ fresh
-
   pub left_fresh : FitsFresh c → FitsFresh d
   left_fresh fresh = ap table_of (sym (seven_left d c leaves)) ∙ fresh
 
   -- not formatted, or formatted
   pub fresh_or_new_left : (version : Stamp) → FreshOrNew version d → LeftFreshOrNew version c
-  fresh_or_new_left version is = ⊎_elim (λ fresh. inl (fresh_left fresh)) (λ new. inr (formatted_left d c leaves version new)) is
+  fresh_or_new_left version is = ⊎_elim (λ fresh. inl (fresh_left d c leaves fresh)) (λ new. inr (formatted_left d c leaves version new)) is
 
 -- a stop at any moment since a format began, over directories none of which was formatted
 pub left_by_format : {told : Type 0} {a b : State} (version : Stamp) → told → IsLawful a → AllFresh a → EachFreshOrNew told version a b

@@ -4,39 +4,20 @@ use Rattle.std.specs.Prelude.{is_some}
 use Rattle.nn_base.specs.declared.sub.Sub.{Sub}
 use Rattle.nn_base.specs.declared.sub.Sub.TheVariants.{Current, Previous, PreviousTmp, RemovedTmp, FinalizedTmp, LastCheckpointTmp, PreviousCheckpoint}
 use Rattle.nn_base.specs.declared.file_name.FileName.TheVariants.{Version}
-use Rattle.nn_host.specs.Disk.{Held, Disk, Reads, File, Leaves, LeavesFile, PartOf, RemoveSub, Settle, certain, disk_after}
+use Rattle.nn_host.specs.Disk.{Disk, Reads, File, Leaves, PartOf, RemoveSub, Settle, certain, disk_after}
 use Rattle.nn_state.specs.declared.state.Seven.{Seven}
 use Rattle.nn_state.specs.Table.{seven_of}
 use Rattle.nn_state.specs.Typed.{FitsFresh}
 use Rattle.nn_remake.specs.Made.{IsBare}
+use Rattle.nn_remake.proofs.MakingLemmas.{seven_by}
+use Rattle.nn_remake.proofs.LeftLemmas.{some_left}
 use Rattle.nn_open.proofs.TableLemmas.{fresh_seven, fresh_has, has_fresh}
 
 -- settling
 
-pub some_left : (f : Option File) (b : Option (List ℕ)) → LeavesFile f b → is_some b ≡ is_some f
-some_left None None l = refl
-some_left None (Some b) l = absurd l
-some_left (Some f) None l = absurd l
-some_left (Some f) (Some b) l = refl
-
 some_certain : (b : Option (List ℕ)) → is_some (certain b) ≡ is_some b
 some_certain None = refl
 some_certain (Some b) = refl
-
--- the same folders, and VERSION there or not
-seven_by : {A B : Type 0} (d : Held A) (e : Held B) → e.root ≡ d.root → ((s : Sub) → e.has s ≡ d.has s) → is_some (e.file Current Version) ≡ is_some (d.file Current Version) → seven_of e ≡ seven_of d
-seven_by d e root has version = λ k. record {
-  root = root k;
-  current = version k;
-  previous = has Previous k;
-  previous_tmp = has PreviousTmp k;
-  removed_tmp = has RemovedTmp k;
-  finalized_tmp = has FinalizedTmp k;
-  last_checkpoint_tmp = has LastCheckpointTmp k;
-}
-
-pub seven_left : (d : Disk) (c : Reads) → Leaves d c → seven_of c ≡ seven_of d
-seven_left d c leaves = seven_by d c leaves.root leaves.subs (some_left (d.file Current Version) (c.file Current Version) (leaves.files Current Version))
 
 pub seven_settled : (d : Disk) (r : Reads) → Leaves d r → seven_of (disk_after Settle r d) ≡ seven_of d
 seven_settled d r leaves = seven_by d (disk_after Settle r d) refl (λ s. refl) (some_certain (r.file Current Version) ∙ some_left (d.file Current Version) (r.file Current Version) (leaves.files Current Version))

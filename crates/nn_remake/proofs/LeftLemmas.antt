@@ -1,14 +1,15 @@
--- What a stop leaves of a directory that was made, and the chain of it.
-use Rattle.std.proofs.Common.{◌≡◌, ◌≢◌, ℕ, List, Option, Some, None, inr, refl, ◌∙◌, ap, subst, arith}
+-- What a stop leaves of a directory that isn't formatted or that was made, and the chain of the latter.
+use Rattle.std.proofs.Common.{◌≡◌, ◌≢◌, ℕ, List, Option, Some, None, inl, inr, ⊎_elim, refl, ◌∙◌, ap, subst, arith}
 use Rattle.std.specs.Fmt.{decimal}
+use Rattle.std.specs.Prelude.{is_some}
 use Rattle.nn_base.specs.declared.sub.Sub.TheVariants.{Current, Previous}
 use Rattle.nn_base.specs.declared.file_name.FileName.{FileName}
 use Rattle.nn_base.specs.declared.file_name.FileName.TheVariants as name
 use Rattle.nn_base.specs.Names.{first_of}
 use Rattle.nn_host.specs.Disk.{Disk, Reads, File, Leaves, LeavesFile, certain}
 use Rattle.nn_host.proofs.CleanLemmas.{sure_left}
-use Rattle.nn_state.specs.Table.{table_of}
-use Rattle.nn_state.specs.Typed.{FitsReady}
+use Rattle.nn_state.specs.Table.{seven_of, table_of}
+use Rattle.nn_state.specs.Typed.{FitsFresh, FitsReady}
 use Rattle.nn_marks.specs.declared.version.Version.{Version}
 use Rattle.nn_marks.specs.Seen.{seen_text_of}
 use Rattle.nn_marks.specs.VersionText.{version_text_of}
@@ -19,9 +20,26 @@ use Rattle.nn_chain.specs.Folder.{folder_at}
 use Rattle.nn_chain.specs.Images.{IsIntact}
 use Rattle.nn_chain.specs.Chain.{HasNoSegment, HasNoLater}
 use Rattle.nn_chain.proofs.BareLemmas.{bare_chain}
-use Rattle.nn_remake.specs.Made.{JustCurrent, IsMade, ReadsMade, Serves, MadeIsLeft}
+use Rattle.nn_remake.specs.Made.{JustCurrent, IsMade, ReadsMade, Serves, FreshOrMadeIsLeft}
 use Rattle.nn_remake.proofs.ChainLemmas.{not_segment}
-use Rattle.nn_remake.proofs.MakingLemmas.{just_seven, new_table}
+use Rattle.nn_remake.proofs.MakingLemmas.{just_seven, new_table, seven_by}
+
+-- ---- a directory that isn't formatted
+
+-- a stop makes no file, and takes none away
+pub some_left : (f : Option File) (b : Option (List ℕ)) → LeavesFile f b → is_some b ≡ is_some f
+some_left None None l = refl
+some_left None (Some b) l = absurd l
+some_left (Some f) None l = absurd l
+some_left (Some f) (Some b) l = refl
+
+pub seven_left : (d : Disk) (c : Reads) → Leaves d c → seven_of c ≡ seven_of d
+seven_left d c leaves = seven_by d c leaves.root leaves.subs (some_left (d.file Current name.Version) (c.file Current name.Version) (leaves.files Current name.Version))
+
+pub fresh_left : (d : Disk) (c : Reads) → Leaves d c → FitsFresh d → FitsFresh c
+fresh_left d c leaves fresh = ap table_of (seven_left d c leaves) ∙ fresh
+
+-- ---- a directory that was made
 
 -- a stop makes no file
 pub none_left : (d : Disk) (c : Reads) (n : FileName) → Leaves d c → d.file Current n ≡ None → c.file Current n ≡ None
@@ -78,11 +96,12 @@ module _ {version : Version} {id : ℕ} {ns : Namespace} (c : Reads) (made : Rea
         bare = chain.1;
       }
 
-pub made_is_left : (version : Version) (id : ℕ) (ns : Namespace) → MadeIsLeft version id ns
-made_is_left version id ns d c made leaves =
-    let whole = made_left version id ns d c made leaves in
-    record { whole = whole; serves = made_serves c whole }
+pub fresh_or_made_left : (version : Version) (id : ℕ) (ns : Namespace) → FreshOrMadeIsLeft version id ns
+fresh_or_made_left version id ns d c is leaves = ⊎_elim
+    (λ fresh. inl (fresh_left d c leaves fresh))
+    (λ made. let whole = made_left version id ns d c made leaves in inr (record { whole = whole; serves = made_serves c whole }))
+    is
 
--- and is one that serves
+-- it is one that serves
 pub made_ready : {version : Version} {id : ℕ} {ns : Namespace} (c : Reads) → ReadsMade version id ns c → FitsReady c
 made_ready c made = record { normal = made.normal; nothing_saved = made.whole.other_subs Previous (λ e. cc) }

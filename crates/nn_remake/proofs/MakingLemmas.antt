@@ -44,7 +44,7 @@ unfolding table_of
 new_table = refl
 
 -- the same folders, and VERSION there or not
-seven_by : {A B : Type 0} (d : Held A) (e : Held B) → e.root ≡ d.root → ((s : Sub) → e.has s ≡ d.has s) → is_some (e.file Current name.Version) ≡ is_some (d.file Current name.Version) → seven_of e ≡ seven_of d
+pub seven_by : {A B : Type 0} (d : Held A) (e : Held B) → e.root ≡ d.root → ((s : Sub) → e.has s ≡ d.has s) → is_some (e.file Current name.Version) ≡ is_some (d.file Current name.Version) → seven_of e ≡ seven_of d
 seven_by d e root has version = λ k. record {
   root = root k;
   current = version k;

@@ -70,5 +70,5 @@ pub record LeftMade (version : Version) (id : ℕ) (ns : Namespace) (c : Reads) 
   pub whole : ReadsMade version id ns c
   pub serves : Serves version id ns c
 
-abbrev pub MadeIsLeft : Version → ℕ → Namespace → Type 0
-MadeIsLeft version id ns = (d : Disk) (c : Reads) → IsMade version id ns d → Leaves d c → LeftMade version id ns c
+abbrev pub FreshOrMadeIsLeft : Version → ℕ → Namespace → Type 0
+FreshOrMadeIsLeft version id ns = (d : Disk) (c : Reads) → FreshOrMade version id ns d → Leaves d c → FitsFresh c ⊎ LeftMade version id ns c

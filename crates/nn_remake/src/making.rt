@@ -9,7 +9,7 @@ ghost use Rattle.nn_small.specs.Small.{OldOrNew, Written};
 ghost use Rattle.nn_marks.specs.Seen.{seen_text_of};
 ghost use Rattle.nn_image.specs.Imaged.{IsImaged};
 ghost use Rattle.nn_remake.specs.Counts.{IsCountedBy};
-ghost use Rattle.nn_remake.specs.Made.{IsBare, FreshOrMade, WasMade, MadeIsLeft};
+ghost use Rattle.nn_remake.specs.Made.{IsBare, FreshOrMade, WasMade, FreshOrMadeIsLeft};
 
 use crate::fault::MakeFault;
 use crate::publishing::write_image;
@@ -39,7 +39,7 @@ pub fn make<H: Host, T: Tree>(
     ensures ok { H.told → OnOk result (WasMade version.now id (T.meaning tree.now) at.dir.0 (H.state host.new)) }
     ensures dir { IfOk result (λ ready. ready.dir ≡ at.dir) }
     ensures any_moment { OnlyAt H.told at.dir.0 (H.state host.old) (H.state host.new) (FreshOrMade version.now id (T.meaning tree.now)) }
-    ensures left { MadeIsLeft version.now id (T.meaning tree.now) }
+    ensures left { FreshOrMadeIsLeft version.now id (T.meaning tree.now) }
     ensures cause { IsCountedBy at.dir.0 (H.state host.old) (H.state host.new) result }
 {
     let text = version_text(alloc, version)?;

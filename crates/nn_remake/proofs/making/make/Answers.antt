@@ -1,7 +1,7 @@
 use Rattle.std.proofs.Common.{inl, ◌∙◌}
 use Rattle.nn_host.proofs.WorkLemmas.{work_refl}
 use Rattle.nn_remake.proofs.MakingLemmas.{bare_fresh, work_began, began, until_imaged, until_seen, until_versioned, all_made}
-use Rattle.nn_remake.proofs.LeftLemmas.{made_is_left}
+use Rattle.nn_remake.proofs.LeftLemmas.{fresh_or_made_left}
 use Rattle.nn_remake.proofs.making.make.Goals as goal
 
 pub returns-in_err-text-clause-any_moment : goal.returns-in_err-text-clause-any_moment
@@ -42,19 +42,19 @@ returns-clause-ok g c =
     (c.deref.ensures.value ∙ c.in_ok-text.ensures.ok) c.in_ok-write_small.ensures.ok
 
 pub returns-in_err-text-clause-left : goal.returns-in_err-text-clause-left
-returns-in_err-text-clause-left g c = made_is_left c.args.version.now c.args.id (g.T.Tree.meaning c.args.tree.now)
+returns-in_err-text-clause-left g c = fresh_or_made_left c.args.version.now c.args.id (g.T.Tree.meaning c.args.tree.now)
 
 pub returns-in_err-make_sub-clause-left : goal.returns-in_err-make_sub-clause-left
-returns-in_err-make_sub-clause-left g c = made_is_left c.args.version.now c.args.id (g.T.Tree.meaning c.args.tree.now)
+returns-in_err-make_sub-clause-left g c = fresh_or_made_left c.args.version.now c.args.id (g.T.Tree.meaning c.args.tree.now)
 
 pub returns-in_err-write_image-clause-left : goal.returns-in_err-write_image-clause-left
-returns-in_err-write_image-clause-left g c = made_is_left c.args.version.now c.args.id (g.T.Tree.meaning c.args.tree.now)
+returns-in_err-write_image-clause-left g c = fresh_or_made_left c.args.version.now c.args.id (g.T.Tree.meaning c.args.tree.now)
 
 pub returns-in_err-write_seen-clause-left : goal.returns-in_err-write_seen-clause-left
-returns-in_err-write_seen-clause-left g c = made_is_left c.args.version.now c.args.id (g.T.Tree.meaning c.args.tree.now)
+returns-in_err-write_seen-clause-left g c = fresh_or_made_left c.args.version.now c.args.id (g.T.Tree.meaning c.args.tree.now)
 
 pub returns-in_err-write_small-clause-left : goal.returns-in_err-write_small-clause-left
-returns-in_err-write_small-clause-left g c = made_is_left c.args.version.now c.args.id (g.T.Tree.meaning c.args.tree.now)
+returns-in_err-write_small-clause-left g c = fresh_or_made_left c.args.version.now c.args.id (g.T.Tree.meaning c.args.tree.now)
 
 pub returns-clause-left : goal.returns-clause-left
-returns-clause-left g c = made_is_left c.args.version.now c.args.id (g.T.Tree.meaning c.args.tree.now)
+returns-clause-left g c = fresh_or_made_left c.args.version.now c.args.id (g.T.Tree.meaning c.args.tree.now)
