@@ -4,3 +4,4 @@ pub mod RecordLemmas
 pub mod ChainLemmas
 pub mod ReadLemmas
 pub mod UnsoundLemmas
+pub mod LawLemmas

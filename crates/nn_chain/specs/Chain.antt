@@ -67,9 +67,3 @@ HasNoLater folder id = (later : ℕ) → later < 2 ^ 63 → id < later → folde
 abbrev pub BareChain : Type 0
 BareChain = (folder : Folder) (version : Version) (id : ℕ) (ns : Namespace) → IsIntact folder version id ns → HasNoLater folder id → HasNoSegment folder
     → IsChain folder version (record { last = id; ns = ns }) × EndsBare folder version (record { last = id; ns = ns })
-
--- ---- how many there are
-
--- a folder has at most one chain
-abbrev pub OneChain : Type 0
-OneChain = (folder : Folder) (version : Version) (end other : Reached) → IsChain folder version end → IsChain folder version other → end ≡ other

@@ -5,3 +5,4 @@ pub mod Records
 pub mod Chain
 pub mod Fair
 pub mod Reading
+pub mod Laws
