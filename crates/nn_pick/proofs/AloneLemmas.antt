@@ -1,6 +1,6 @@
 -- One directory by itself, whose `current` has a whole image and no record: it opens to that image's namespace.
 use Rattle.std.proofs.Common.{◌≡◌, inl, inr, ℕ, ℤ, ◌+◌, ◌≤◌, Bool, true, List, [], ◌∷◌, Some, None, Result, refl, sym, ◌∙◌, ap, subst, arith}
-use Rattle.std.specs.Prelude.{◌==◌, ◌<ℤ◌, unsigned_abs}
+use Rattle.std.specs.Prelude.{◌==◌, ◌<ℤ◌}
 use Rattle.std.proofs.lemmas.Bool.{cases_lt}
 use Rattle.std.proofs.lemmas.Bool.Decides.{Decides-eqb}
 use Rattle.std.proofs.lemmas.Int.{ints}
@@ -15,9 +15,7 @@ use Rattle.nn_state.specs.Table.{seven_of, table_of}
 use Rattle.nn_state.specs.Seat.{seat_by, if_there, serving, saved}
 use Rattle.nn_tree.specs.Namespace.{Namespace}
 use Rattle.nn_record.specs.declared.transaction.Record.{Record}
-use Rattle.nn_image.specs.Imaged.{IsImage}
 use Rattle.nn_chain.specs.Folder.{Folder, HasVersion, HasSeen}
-use Rattle.nn_chain.specs.Images.{IsIntact}
 use Rattle.nn_chain.specs.Records.{HoldsRecord}
 use Rattle.nn_chain.specs.Chain.{Reached, Leads, IsChain, HasNoSegment}
 use Rattle.nn_chain.proofs.BareLemmas.{bare_chain}
@@ -30,6 +28,7 @@ use Rattle.nn_pick.specs.Refusing.{Applies, IsHolder, program_layout}
 use Rattle.nn_pick.specs.Opening.{OpensAlone, Unsaved, alone}
 use Rattle.nn_pick.specs.Laws.{HoldsImage, AnImageOpensAlone}
 use Rattle.nn_pick.proofs.VersionLemmas.{SaysTheSame, one_version, one_current, one_under, no_difference}
+use Rattle.nn_pick.proofs.UnderLemmas.{intact_under}
 
 -- ---- a chain without segments ends at its image
 
@@ -39,14 +38,6 @@ holds_none folder bare layout name r holds = none-some holds.bytes (sym (bare na
 leads_nowhere : (folder : Folder) → HasNoSegment folder → (layout : ℤ) (at : Reached) (records : List Record) (end : Reached) → Leads folder layout at records end → end.last ≡ at.last
 leads_nowhere folder bare layout at [] end leads = ap (λ (r : Reached). r.last) leads
 leads_nowhere folder bare layout at (r ∷ rs) end leads = absurd (holds_none folder bare layout leads.0.its.name r leads.0.its.holds)
-
-intact_under : (folder : Folder) (v w : Version) (id : ℕ) (ns : Namespace) → SaysTheSame v w → IsIntact folder w id ns → IsIntact folder v id ns
-intact_under folder v w id ns same is = record {
-  bytes = is.bytes;
-  there = is.there;
-  digest = is.digest;
-  image = subst (λ (n : ℕ). IsImage is.bytes ns id n (unsigned_abs v.layout)) (sym same.namespace) (subst (λ (l : ℤ). IsImage is.bytes ns id w.namespace (unsigned_abs l)) (sym same.layout) is.image);
-}
 
 module _ (c : Reads) (version : Version) (id : ℕ) (ns : Namespace) (h : HoldsImage c version id ns) where
   last_id : (other : Version) (end : Reached) → HasVersion (c.file Current) other → IsChain (c.file Current) other end → end.last ≡ id

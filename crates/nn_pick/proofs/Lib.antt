@@ -1,4 +1,5 @@
 pub mod VersionLemmas
+pub mod UnderLemmas
 pub mod AloneLemmas
 pub mod OneRefusalLemmas
 pub mod LawLemmas

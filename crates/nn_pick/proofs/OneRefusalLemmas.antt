@@ -11,7 +11,7 @@ use Rattle.nn_marks.specs.declared.key.Key.TheVariants.{NamespaceId, ClusterId, 
 use Rattle.nn_marks.specs.declared.version.Version.{Version}
 use Rattle.nn_chain.specs.Folder.{Folder}
 use Rattle.nn_chain.specs.Chain.{Reached}
-use Rattle.nn_chain.specs.declared.why.ImageWhy.TheVariants.{Absent}
+use Rattle.nn_chain.specs.declared.why.ImageWhy.{ImageWhy}
 use Rattle.nn_pick.specs.declared.intent.Intent.{Intent}
 use Rattle.nn_pick.specs.declared.refusal.PreviousWhy.{PreviousWhy}
 use Rattle.nn_pick.specs.declared.refusal.PreviousWhy.TheVariants as why
@@ -19,8 +19,8 @@ use Rattle.nn_pick.specs.declared.refusal.Refusal.{Refusal}
 use Rattle.nn_pick.specs.declared.refusal.Refusal.TheVariants.{Missing, Inconsistent, Formatted, NotFormatted, BadVersion, Mismatch, FutureLayout, ForeignLayout, NoImage, Gap, Spent, PreviousExists, CtimeSpent, NoPrevious, BadPrevious}
 use Rattle.nn_pick.specs.Dirs.{Dirs, IsLowest, IsFormatted, HasGreatestCtime, ServesCurrent, ServesPrevious, ServesUnder, IsGreatestSeen, version_fault}
 use Rattle.nn_pick.specs.Refusing.{Applies, SomeChosen, Differs, HasLayout, IsFuture, IsForeign, IsFaulty, IsHolder, IsBadHolder, IsFirstWrong, IsWrong, first_difference, test_of, place_of}
-use Rattle.nn_pick.specs.Laws.{but_image_why}
-use Rattle.nn_pick.proofs.VersionLemmas.{SaysTheSame, one_current, one_previous, one_under}
+use Rattle.nn_pick.proofs.VersionLemmas.{SaysTheSame, same_turned, one_current, one_previous, one_under}
+use Rattle.nn_pick.proofs.UnderLemmas.{one_image_why}
 
 -- ---- the lowest
 
@@ -33,7 +33,7 @@ one_lowest n P Q i j to back p q = elim (cases_order i j) [
   ]
 ]
 
-the_lowest : (n : ℕ) (P : ℕ → Type 0) (i j : ℕ) → IsLowest n P i → IsLowest n P j → i ≡ j
+pub the_lowest : (n : ℕ) (P : ℕ → Type 0) (i j : ℕ) → IsLowest n P i → IsLowest n P j → i ≡ j
 the_lowest n P i j p q = one_lowest n P P i j (λ k is. is) (λ k is. is) p q
 
 same_dir : (i j : DirNo) → i.0 ≡ j.0 → i ≡ j
@@ -41,7 +41,7 @@ same_dir i j e = λ k. record { 0 = e k }
 
 -- ---- VERSIONs of one directory
 
-under_same : (dirs : Dirs) (i j : ℕ) (v w : Version) (a b : Folder) → i ≡ j → ServesUnder (dirs.at i) v a → ServesUnder (dirs.at j) w b → SaysTheSame v w
+pub under_same : (dirs : Dirs) (i j : ℕ) (v w : Version) (a b : Folder) → i ≡ j → ServesUnder (dirs.at i) v a → ServesUnder (dirs.at j) w b → SaysTheSame v w
 under_same dirs i j v w a b same p q = one_under (dirs.at i) v w a b p (subst (λ (k : ℕ). ServesUnder (dirs.at k) w b) (sym same) q)
 
 difference_from : (v w other : Version) → SaysTheSame v w → first_difference v other ≡ first_difference w other
@@ -57,9 +57,6 @@ difference_to v a b same = λ k.
     else if not (bytes_eq v.cluster (same.cluster k)) then Some ClusterId
     else if not (bytes_eq v.blockpool (same.blockpool k)) then Some BlockpoolId
     else None
-
-same_turned : (v w : Version) → SaysTheSame v w → SaysTheSame w v
-same_turned v w same = record { namespace = sym same.namespace; cluster = sym same.cluster; ctime = sym same.ctime; blockpool = sym same.blockpool; layout = sym same.layout }
 
 differs_from : (dirs : Dirs) (v w : Version) (i : ℕ) (key : Key) → SaysTheSame v w → Differs dirs v i key → Differs dirs w i key
 differs_from dirs v w i key same is = record { other = is.other; folder = is.folder; under = is.under; by = sym (difference_from v w is.other same) ∙ is.by }
@@ -86,6 +83,14 @@ one_mismatch dirs intent e f i j a b p q =
 
 one_layout : (dirs : Dirs) (P : ℤ → Type 0) (i j : DirNo) (a b : ℤ) → i.0 ≡ j.0 → HasLayout dirs P i.0 a → HasLayout dirs P j.0 b → a ≡ b
 one_layout dirs P i j a b place p q = sym p.is ∙ (under_same dirs i.0 j.0 p.version q.version p.folder q.folder place p.under q.under).layout ∙ q.is
+
+one_no_image : (dirs : Dirs) (intent : Intent) (i j : DirNo) (a b : ImageWhy) → Applies dirs intent (NoImage i a) → Applies dirs intent (NoImage j b) → NoImage i a ≡ NoImage j b
+one_no_image dirs intent i j a b p q =
+    let place = the_lowest dirs.count (λ k. (version : Version) × (folder : Folder) × HasGreatestCtime dirs k version folder) i.0 j.0 p.0 q.0 in
+    let same = under_same dirs i.0 j.0 p.2 q.2 p.3 q.3 place p.4.under q.4.under in
+    let folder = one_current (dirs.at i.0) p.3 q.3 p.4.under.serves (subst (λ (k : ℕ). ServesCurrent (dirs.at k) q.3) (sym place) q.4.under.serves) in
+    let reason : a ≡ b = one_image_why p.3 q.3 p.2 q.2 a b folder same p.5 q.5 in
+    λ k. NoImage (same_dir i j place k) (reason k)
 
 one_last : (dirs : Dirs) (v w : Version) (end other : Reached) → SomeChosen dirs v end → SomeChosen dirs w other → end.last ≡ other.last
 one_last dirs v w end other p q =
@@ -143,7 +148,7 @@ one_reason dirs i j a b place p q =
 
 -- ---- all lines
 
-pub one_applies : (dirs : Dirs) (intent : Intent) (r s : Refusal) → Applies dirs intent r → Applies dirs intent s → test_of r ≡ test_of s → but_image_why r ≡ but_image_why s
+pub one_applies : (dirs : Dirs) (intent : Intent) (r s : Refusal) → Applies dirs intent r → Applies dirs intent s → test_of r ≡ test_of s → r ≡ s
 one_applies dirs intent (Missing i) (Missing j) p q e = same_Some _ _ (sym p ∙ q)
 one_applies dirs intent (Missing i) (Inconsistent j b) p q e = same_Some _ _ (sym p ∙ q)
 one_applies dirs intent (Inconsistent i a) (Missing j) p q e = same_Some _ _ (sym p ∙ q)
@@ -159,9 +164,7 @@ one_applies dirs intent (ForeignLayout i a) (ForeignLayout j b) p q e =
     let place = the_lowest dirs.count (λ k. (layout : ℤ) × HasLayout dirs IsForeign k layout) i.0 j.0 p.0 q.0 in
     let layout = one_layout dirs IsForeign i j a b place p.1 q.1 in
     λ k. ForeignLayout (same_dir i j place k) (layout k)
-one_applies dirs intent (NoImage i a) (NoImage j b) p q e =
-    let place = the_lowest dirs.count (λ k. (version : Version) × (folder : Folder) × HasGreatestCtime dirs k version folder) i.0 j.0 p.0 q.0 in
-    λ k. NoImage (same_dir i j place k) Absent
+one_applies dirs intent (NoImage i a) (NoImage j b) p q e = one_no_image dirs intent i j a b p q
 one_applies dirs intent (Gap a i) (Gap b j) p q e =
     let seen = one_seen dirs a b p.4 q.4 in
     let last : i ≡ j = p.3 ∙ one_last dirs p.0 q.0 p.1 q.1 p.2 q.2 ∙ sym q.3 in

@@ -6,38 +6,18 @@ use Rattle.nn_marks.specs.declared.version.Version.{Version}
 use Rattle.nn_state.specs.declared.state.StorageState.TheVariants.{Normal}
 use Rattle.nn_state.specs.Table.{seven_of, table_of}
 use Rattle.nn_tree.specs.Namespace.{Namespace}
-use Rattle.nn_chain.specs.declared.why.ImageWhy.TheVariants.{Absent}
 use Rattle.nn_chain.specs.Folder.{HasVersion, HasSeen}
 use Rattle.nn_chain.specs.Images.{IsIntact}
 use Rattle.nn_chain.specs.Chain.{HasNoSegment, HasNoLater}
 use Rattle.nn_pick.specs.declared.intent.Intent.{Intent}
 use Rattle.nn_pick.specs.declared.refusal.Refusal.{Refusal}
-use Rattle.nn_pick.specs.declared.refusal.Refusal.TheVariants.{Missing, Inconsistent, Formatted, NotFormatted, BadVersion, Mismatch, FutureLayout, ForeignLayout, NoImage, Gap, Spent, PreviousExists, CtimeSpent, NoPrevious, BadPrevious}
 use Rattle.nn_pick.specs.Dirs.{Dirs}
 use Rattle.nn_pick.specs.Refusing.{Refuses, IsOurLayout}
 use Rattle.nn_pick.specs.Opening.{Opening, Opens, OpensAlone}
 
--- a refusal, but for the reason why an image isn't intact
-abbrev pub but_image_why : Refusal → Refusal
-but_image_why (Missing i) = Missing i
-but_image_why (Inconsistent i why) = Inconsistent i why
-but_image_why (Formatted i) = Formatted i
-but_image_why NotFormatted = NotFormatted
-but_image_why (BadVersion i fault) = BadVersion i fault
-but_image_why (Mismatch first dir key) = Mismatch first dir key
-but_image_why (FutureLayout i found) = FutureLayout i found
-but_image_why (ForeignLayout i found) = ForeignLayout i found
-but_image_why (NoImage i why) = NoImage i Absent
-but_image_why (Gap seen last) = Gap seen last
-but_image_why (Spent last) = Spent last
-but_image_why (PreviousExists i) = PreviousExists i
-but_image_why (CtimeSpent old) = CtimeSpent old
-but_image_why NoPrevious = NoPrevious
-but_image_why (BadPrevious i why) = BadPrevious i why
-
--- there is one refusal at most; that an image has one fault is for the crate of images to say
+-- at most one refusal is the answer
 abbrev pub OneRefuses : Type 0
-OneRefuses = (dirs : Dirs) (intent : Intent) (r s : Refusal) → Refuses dirs intent r → Refuses dirs intent s → but_image_why r ≡ but_image_why s
+OneRefuses = (dirs : Dirs) (intent : Intent) (r s : Refusal) → Refuses dirs intent r → Refuses dirs intent s → r ≡ s
 
 -- directories that open aren't refused
 abbrev pub NoneOpensRefused : Type 0

@@ -1,7 +1,7 @@
 // What follows from the definitions alone, for the proofs of the crates above: no call does anything here.
 ghost use Rattle.nn_pick.specs.Laws.{OneRefuses, NoneOpensRefused, AnImageOpensAlone};
 
-/// At most one refusal is the answer, but for the reason why an image isn't intact.
+/// At most one refusal is the answer.
 pub fn one_refuses()
     ensures { OneRefuses }
 {}
