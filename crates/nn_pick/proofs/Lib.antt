@@ -2,4 +2,5 @@ pub mod VersionLemmas
 pub mod UnderLemmas
 pub mod AloneLemmas
 pub mod OneRefusalLemmas
+pub mod OneOpeningLemmas
 pub mod LawLemmas

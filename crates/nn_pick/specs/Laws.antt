@@ -23,6 +23,10 @@ OneRefuses = (dirs : Dirs) (intent : Intent) (r s : Refusal) → Refuses dirs in
 abbrev pub NoneOpensRefused : Type 0
 NoneOpensRefused = (dirs : Dirs) (intent : Intent) (opened : Opening) (refusal : Refusal) → Opens dirs intent opened → ¬ Refuses dirs intent refusal
 
+-- Directories open in at most one way, whatever they are opened for: the chosen ones, the last id, the namespace and what is saved are the same.
+abbrev pub OneOpens : Type 0
+OneOpens = (dirs : Dirs) (intent other : Intent) (a b : Opening) → Opens dirs intent a → Opens dirs other b → a ≡ b
+
 -- ---- a directory whose `current` has a whole image and no record
 
 -- no image is above it and no segment is there, and nothing is saved or under way

@@ -1,5 +1,5 @@
 // What follows from the definitions alone, for the proofs of the crates above: no call does anything here.
-ghost use Rattle.nn_pick.specs.Laws.{OneRefuses, NoneOpensRefused, AnImageOpensAlone};
+ghost use Rattle.nn_pick.specs.Laws.{OneRefuses, NoneOpensRefused, OneOpens, AnImageOpensAlone};
 
 /// At most one refusal is the answer.
 pub fn one_refuses()
@@ -10,6 +10,12 @@ pub fn one_refuses()
 #[tactic(auto, using(crate::proofs::LawLemmas::none_opens_refused))]
 pub fn none_opens_refused()
     ensures { NoneOpensRefused }
+{}
+
+/// Directories open in at most one way, whatever they are opened for: the chosen ones, the last id, the namespace and
+/// what is saved are the same.
+pub fn one_opens()
+    ensures { OneOpens }
 {}
 
 /// A directory whose `current` has a whole image and no record opens alone to the namespace of that image.
