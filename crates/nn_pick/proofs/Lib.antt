@@ -1,5 +1,7 @@
 pub mod VersionLemmas
 pub mod UnderLemmas
+pub mod HoldsLemmas
+pub mod OneImageLemmas
 pub mod AloneLemmas
 pub mod OneRefusalLemmas
 pub mod OneOpeningLemmas

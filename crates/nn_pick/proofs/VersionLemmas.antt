@@ -28,6 +28,9 @@ pub record SaysTheSame (a b : Version) : Type 0 where
 pub same_turned : (v w : Version) → SaysTheSame v w → SaysTheSame w v
 same_turned v w same = record { namespace = sym same.namespace; cluster = sym same.cluster; ctime = sym same.ctime; blockpool = sym same.blockpool; layout = sym same.layout }
 
+pub same_as_well : (v w x : Version) → SaysTheSame v w → SaysTheSame w x → SaysTheSame v x
+same_as_well v w x p q = record { namespace = p.namespace ∙ q.namespace; cluster = p.cluster ∙ q.cluster; ctime = p.ctime ∙ q.ctime; blockpool = p.blockpool ∙ q.blockpool; layout = p.layout ∙ q.layout }
+
 one_value : {A B : Type 0} (o : Option A) (f : A → B) (a b : B) → IsSomeAnd o (λ x. a ≡ f x) → IsSomeAnd o (λ x. b ≡ f x) → a ≡ b
 one_value None f a b p q = absurd p
 one_value (Some x) f a b p q = p ∙ sym q

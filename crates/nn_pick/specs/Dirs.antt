@@ -1,5 +1,5 @@
 -- Several name directories as they read: which are formatted, what their VERSIONs say, and which chain each has.
-use Rattle.std.specs.Prelude.{◌≡◌, ◌≢◌, ℕ, ◌<◌, ◌≤◌, List, Option, Some, None}
+use Rattle.std.specs.Prelude.{◌≡◌, ◌≢◌, ℕ, ◌<◌, ◌≤◌, Bool, ◌&&◌, nat_lt, List, Option, Some, None, is_some}
 use Rattle.nn_base.specs.declared.sub.Sub.{Sub}
 use Rattle.nn_base.specs.declared.file_name.FileName.TheVariants as name
 use Rattle.nn_host.specs.Disk.{Reads}
@@ -25,6 +25,13 @@ pub record IsLowest (n : ℕ) (P : ℕ → Type 0) (i : ℕ) : Type 0 where
 -- some folder serves as current
 abbrev pub IsFormatted : Reads → Type 0
 IsFormatted c = serving c ≢ None
+
+-- which of the directories are formatted, and that some one is
+abbrev pub formatted_in : Dirs → ℕ → Bool
+formatted_in dirs i = nat_lt i dirs.count && is_some (serving (dirs.at i))
+
+abbrev pub HasFormatted : Dirs → Type 0
+HasFormatted dirs = (i : ℕ) × (i < dirs.count) × IsFormatted (dirs.at i)
 
 -- the folder that serves as current, and the one that serves as previous
 pub record ServesCurrent (c : Reads) (folder : Folder) : Type 0 where

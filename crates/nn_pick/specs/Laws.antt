@@ -1,19 +1,20 @@
 -- What follows from the definitions of opening and refusing alone.
-use Rattle.std.specs.Prelude.{◌≡◌, ℕ, ◌+◌, ◌<◌, ◌≤◌, ◌^◌, false, None, Ok}
+use Rattle.std.specs.Prelude.{◌≡◌, ◌⊎◌, ℕ, ◌+◌, ◌<◌, ◌≤◌, ◌^◌, false, None, Ok}
 use Rattle.nn_base.specs.declared.sub.Sub.TheVariants.{Current, Previous}
 use Rattle.nn_host.specs.Disk.{Reads}
 use Rattle.nn_marks.specs.declared.version.Version.{Version}
 use Rattle.nn_state.specs.declared.state.StorageState.TheVariants.{Normal}
 use Rattle.nn_state.specs.Table.{seven_of, table_of}
+use Rattle.nn_state.specs.Typed.{FitsFresh}
 use Rattle.nn_tree.specs.Namespace.{Namespace}
 use Rattle.nn_chain.specs.Folder.{HasVersion, HasSeen}
 use Rattle.nn_chain.specs.Images.{IsIntact}
 use Rattle.nn_chain.specs.Chain.{HasNoSegment, HasNoLater}
 use Rattle.nn_pick.specs.declared.intent.Intent.{Intent}
 use Rattle.nn_pick.specs.declared.refusal.Refusal.{Refusal}
-use Rattle.nn_pick.specs.Dirs.{Dirs}
+use Rattle.nn_pick.specs.Dirs.{Dirs, HasFormatted}
 use Rattle.nn_pick.specs.Refusing.{Refuses, IsOurLayout}
-use Rattle.nn_pick.specs.Opening.{Opening, Opens, OpensAlone}
+use Rattle.nn_pick.specs.Opening.{Opening, Opens, OpensAlone, OpenSoundly}
 
 -- at most one refusal is the answer
 abbrev pub OneRefuses : Type 0
@@ -44,3 +45,14 @@ pub record HoldsImage (c : Reads) (version : Version) (id : ℕ) (ns : Namespace
 -- it alone opens to the namespace of that image
 abbrev pub AnImageOpensAlone : Type 0
 AnImageOpensAlone = (c : Reads) (version : Version) (id : ℕ) (ns : Namespace) → HoldsImage c version id ns → OpensAlone c id (record { ns = ns; saved = None })
+
+-- ---- several directories, as a format leaves them
+
+-- each holds this image and no record, or is NOT_FORMATTED; and one is formatted
+pub record HoldOneImage (dirs : Dirs) (version : Version) (id : ℕ) (ns : Namespace) : Type 0 where
+  pub each : (i : ℕ) → i < dirs.count → FitsFresh (dirs.at i) ⊎ HoldsImage (dirs.at i) version id ns
+  pub some : HasFormatted dirs
+
+-- they open to the namespace of that image, and are sound
+abbrev pub OneImageIsSound : Type 0
+OneImageIsSound = (dirs : Dirs) (version : Version) (id : ℕ) (ns : Namespace) → HoldOneImage dirs version id ns → OpenSoundly dirs id (record { ns = ns; saved = None })

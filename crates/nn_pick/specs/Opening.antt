@@ -8,7 +8,7 @@ use Rattle.nn_chain.specs.Chain.{Reached, IsChain, EndsBare}
 use Rattle.nn_pick.specs.declared.intent.Intent.{Intent}
 use Rattle.nn_pick.specs.declared.intent.Intent.TheVariants.{Start}
 use Rattle.nn_pick.specs.declared.refusal.PreviousWhy.{PreviousWhy}
-use Rattle.nn_pick.specs.Dirs.{Dirs, IsLowest, ServesPrevious, HasGreatestCtime, IsChosen, IsAmongChosen}
+use Rattle.nn_pick.specs.Dirs.{Dirs, IsLowest, ServesPrevious, HasGreatestCtime, IsChosen, IsAmongChosen, formatted_in}
 use Rattle.nn_pick.specs.Refusing.{IsWrong, IsHolder, IsUnrefused}
 
 -- A namespace, and the one that the last upgrade saved, until a rollback returns it or finalize gives it up.
@@ -72,3 +72,8 @@ pub record AreSound (dirs : Dirs) (intent : Intent) : Type 0 where
   pub opens : Opens dirs intent opened
   pub one : (i : ℕ) (version : Version) (folder : Folder) (end : Reached) → IsChosen dirs i version folder end → (end.ns ≡ opened.book.ns) × EndsBare folder version end
   pub saved : (i : ℕ) → IsHolder dirs i → AgreesOnSaved dirs opened
+
+-- They open for a start to this Book at this id, all that are formatted are chosen, and they are sound.
+pub record OpenSoundly (dirs : Dirs) (last : ℕ) (book : Book) : Type 0 where
+  pub opens : Opens dirs Start (record { chosen = formatted_in dirs; last = last; book = book })
+  pub sound : AreSound dirs Start

@@ -1,5 +1,5 @@
 // What follows from the definitions alone, for the proofs of the crates above: no call does anything here.
-ghost use Rattle.nn_pick.specs.Laws.{OneRefuses, NoneOpensRefused, OneOpens, AnImageOpensAlone};
+ghost use Rattle.nn_pick.specs.Laws.{OneRefuses, NoneOpensRefused, OneOpens, AnImageOpensAlone, OneImageIsSound};
 
 /// At most one refusal is the answer.
 pub fn one_refuses()
@@ -21,4 +21,10 @@ pub fn one_opens()
 /// A directory whose `current` has a whole image and no record opens alone to the namespace of that image.
 pub fn an_image_opens_alone()
     ensures { AnImageOpensAlone }
+{}
+
+/// Directories of which each holds one whole image and no record, or isn't formatted, are sound where one of them is
+/// formatted: those that are formatted open together to the namespace of that image.
+pub fn one_image_is_sound()
+    ensures { OneImageIsSound }
 {}
