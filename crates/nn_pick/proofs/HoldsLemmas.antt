@@ -18,7 +18,7 @@ use Rattle.nn_pick.specs.Refused.{unusable}
 use Rattle.nn_pick.specs.Dirs.{IsFormatted, ServesCurrent, ServesUnder, fault_in, version_fault}
 use Rattle.nn_pick.specs.Laws.{HoldsImage}
 use Rattle.nn_pick.proofs.VersionLemmas.{SaysTheSame, one_version, one_current}
-use Rattle.nn_pick.proofs.UnderLemmas.{one_end}
+use Rattle.nn_pick.proofs.UnderLemmas.{version_under, intact_under, one_end}
 
 pub serves_formatted : (c : Reads) (folder : Folder) → ServesCurrent c folder → IsFormatted c
 serves_formatted c folder is gone = none-some is.sub (sym gone ∙ is.serves)
@@ -81,3 +81,17 @@ module _ {c : Reads} {version : Version} {id : ℕ} {ns : Namespace} (h : HoldsI
       let here = subst (λ (f : Folder). HasNoRecord f version.layout (id + 1)) (sym (at its is.serves)) bare in
       let under = subst (λ layout. HasNoRecord its layout (id + 1)) (sym (same other its is).layout) here in
       subst (EndsBare its other) (sym (its_end other its end is chain)) under
+
+-- under each VERSION that says the same
+pub holds_under : (c : Reads) (v w : Version) (id : ℕ) (ns : Namespace) → SaysTheSame v w → HoldsImage c w id ns → HoldsImage c v id ns
+holds_under c v w id ns same h = record {
+  normal = h.normal;
+  nothing_saved = h.nothing_saved;
+  says = version_under (c.file Current) v w same h.says;
+  ours = same.layout ∙ h.ours;
+  intact = intact_under (c.file Current) v w id ns same h.intact;
+  later = h.later;
+  segments = h.segments;
+  seen = h.seen;
+  room = h.room;
+}

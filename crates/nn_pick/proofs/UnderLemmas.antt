@@ -1,18 +1,37 @@
--- What a folder has under one VERSION it has under each that says the same: its images, its chain, and why no image is intact.
+-- What a folder has under one VERSION it has under each that says the same: its VERSION, its images, its chain, and why no image is intact.
 use Rattle.std.proofs.Common.{◌≡◌, ℕ, ℤ, List, inl, inr, subst, sym, ◌∙◌}
-use Rattle.std.specs.Prelude.{unsigned_abs}
+use Rattle.std.specs.Prelude.{unsigned_abs, drop, pos, neg_ℤ, Some, IsSomeAnd}
+use Rattle.std.specs.Str.Lines.{lines}
+use Rattle.std.specs.Str.Parse.{digits_value}
+use Rattle.nn_marks.specs.declared.key.Key.TheVariants.{NamespaceId, ClusterId, CTime, BlockpoolId, LayoutVersion}
 use Rattle.nn_marks.specs.declared.version.Version.{Version}
+use Rattle.nn_marks.specs.Version.{Line, value_of}
+use Rattle.nn_marks.specs.VersionText.{Says}
 use Rattle.nn_tree.specs.Namespace.{Namespace}
 use Rattle.nn_image.specs.Imaged.{IsImage}
 use Rattle.nn_image.specs.Faults.{IsFault}
 use Rattle.nn_chain.specs.declared.why.ImageWhy.{ImageWhy}
 use Rattle.nn_chain.specs.declared.why.ImageWhy.TheVariants.{Absent, Digest, Named, Fault}
-use Rattle.nn_chain.specs.Folder.{Folder}
+use Rattle.nn_chain.specs.Folder.{Folder, HasVersion}
 use Rattle.nn_chain.specs.Images.{IsIntact, IsNewest, IsAnother, IsUnsound, HasNoImage}
 use Rattle.nn_chain.specs.Chain.{Reached, Leads, IsEnd, IsChain}
 use Rattle.nn_chain.proofs.ChainLemmas.{one_chain}
 use Rattle.nn_chain.proofs.LawLemmas.{one_reason}
 use Rattle.nn_pick.proofs.VersionLemmas.{SaysTheSame, same_turned}
+
+-- ---- VERSION
+
+says_under : (text : List Line) (v w : Version) → SaysTheSame v w → Says text w → Says text v
+says_under text v w same is = record {
+  namespace = subst (λ (n : ℕ). IsSomeAnd (value_of NamespaceId text) (λ digits. n ≡ digits_value 10 digits)) (sym same.namespace) is.namespace;
+  cluster = subst (λ (word : List ℕ). value_of ClusterId text ≡ Some word) (sym same.cluster) is.cluster;
+  ctime = subst (λ (n : ℕ). IsSomeAnd (value_of CTime text) (λ digits. n ≡ digits_value 10 digits)) (sym same.ctime) is.ctime;
+  blockpool = subst (λ (word : List ℕ). value_of BlockpoolId text ≡ Some word) (sym same.blockpool) is.blockpool;
+  layout = subst (λ (l : ℤ). IsSomeAnd (value_of LayoutVersion text) (λ digits. l ≡ neg_ℤ (pos (digits_value 10 (drop 1 digits))))) (sym same.layout) is.layout;
+}
+
+pub version_under : (folder : Folder) (v w : Version) → SaysTheSame v w → HasVersion folder w → HasVersion folder v
+version_under folder v w same is = (is.0, is.1, record { sound = is.2.sound; says = says_under (lines is.0) v w same is.2.says })
 
 -- ---- images
 

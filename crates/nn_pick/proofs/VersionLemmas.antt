@@ -1,5 +1,5 @@
 -- Two readings of one VERSION say the same.
-use Rattle.std.proofs.Common.{◌≡◌, ℕ, true, List, Option, Some, None, sym, ◌∙◌, ap, subst}
+use Rattle.std.proofs.Common.{◌≡◌, ℕ, true, List, Option, Some, None, refl, sym, ◌∙◌, ap, subst}
 use Rattle.std.specs.Prelude.{◌==◌, pos, neg_ℤ, drop}
 use Rattle.std.specs.Option.{IsSomeAnd}
 use Rattle.std.specs.Str.{bytes_eq}
@@ -24,6 +24,9 @@ pub record SaysTheSame (a b : Version) : Type 0 where
   pub ctime : a.ctime ≡ b.ctime
   pub blockpool : a.blockpool ≡ b.blockpool
   pub layout : a.layout ≡ b.layout
+
+pub says_itself : (v : Version) → SaysTheSame v v
+says_itself v = record { namespace = refl; cluster = refl; ctime = refl; blockpool = refl; layout = refl }
 
 pub same_turned : (v w : Version) → SaysTheSame v w → SaysTheSame w v
 same_turned v w same = record { namespace = sym same.namespace; cluster = sym same.cluster; ctime = sym same.ctime; blockpool = sym same.blockpool; layout = sym same.layout }

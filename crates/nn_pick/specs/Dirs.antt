@@ -80,3 +80,13 @@ IsAmongChosen dirs i = (version : Version) × (folder : Folder) × (end : Reache
 pub record IsGreatestSeen (dirs : Dirs) (seen : ℕ) : Type 0 where
   pub said : (i : ℕ) × (version : Version) × (folder : Folder) × HasGreatestCtime dirs i version folder × HasSeen folder seen
   pub greatest : (j : ℕ) (other : Version) (its : Folder) (id : ℕ) → HasGreatestCtime dirs j other its → HasSeen its id → id ≤ seen
+
+-- ---- choices
+
+-- so many of these directories, by their numbers
+abbrev pub choice : (ℕ → Reads) → ℕ → (ℕ → ℕ) → Dirs
+choice contents n numbers = record { count = n; at = λ k. contents (numbers k) }
+
+-- P holds of each choice of the first `count` directories, whether or not it has some of them twice
+abbrev pub EachChoice : ℕ → (ℕ → Reads) → (Dirs → Type 0) → Type 0
+EachChoice count contents P = (n : ℕ) (numbers : ℕ → ℕ) → ((k : ℕ) → k < n → numbers k < count) → P (choice contents n numbers)
