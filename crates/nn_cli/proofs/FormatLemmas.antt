@@ -9,13 +9,16 @@ use Rattle.nn_host.proofs.RunsLemmas.{throughout_refl, throughout_trans, through
 use Rattle.nn_host.proofs.LeftLemmas.{each_since}
 use Rattle.nn_marks.specs.declared.version.Version.{Version}
 use Rattle.nn_state.specs.Typed.{FitsFresh}
-use Rattle.nn_open.specs.Formatted.{IsFormatted, ReadsFormatted, OpensEmpty}
+use Rattle.nn_pick.specs.Dirs.{EachChoice}
+use Rattle.nn_pick.proofs.VersionLemmas.{SaysTheSame}
+use Rattle.nn_open.specs.Formatted.{IsFormatted, ReadsFormatted, OpensEmpty, OpenEmptySoundly}
 use Rattle.nn_open.specs.Runs.{Unspoken}
 use Rattle.nn_open.specs.Answers.{AllFresh, AllFormatted, EachFreshOrNew, EachAsBefore, settled_disk, first_unformattable}
-use Rattle.nn_open.proofs.LeftLemmas.{fresh_left, left_fresh, formatted_left, formatted_opens}
+use Rattle.nn_open.proofs.LeftLemmas.{fresh_left, left_fresh, formatted_left}
+use Rattle.nn_open.proofs.OpeningLemmas.{formatted_opens, choices_open}
 use Rattle.nn_cli.specs.Words.{Word}
 use Rattle.nn_cli.specs.Lines.{formatted_line}
-use Rattle.nn_cli.specs.Format.{IsNewVersion, LeftFreshOrAsked, FreshOrAsked, EachFreshOrAsked}
+use Rattle.nn_cli.specs.Format.{IsNewVersion, LeftFreshOrAsked, LeftByFormat, FreshOrAsked, EachFreshOrAsked}
 
 pub out_whole : {told : Type 0} {a b : State} → Unspoken told a b → OutWhole told a b
 out_whole u = throughout_weaker u.each (λ tells m same. same.out_faults)
@@ -38,6 +41,7 @@ formatted_said {a = a} {b = b} {c = c} version formatted spoke = record {
   reads = λ i below. subst (λ (r : ℕ → Reads). ReadsFormatted version (r i)) (sym spoke.reads) (formatted.reads i below);
   disks = λ i below. subst (λ (dirs : ℕ → Dir). IsFormatted version (dirs i).disk) (sym spoke.dirs) (formatted.disks i below);
   opens = λ i below. subst (λ (r : ℕ → Reads). OpensEmpty (r i)) (sym spoke.reads) (formatted.opens i below);
+  choices = subst (λ (r : ℕ → Reads). EachChoice a.count r (λ dirs. 0 < dirs.count → OpenEmptySoundly dirs)) (sym spoke.reads) formatted.choices;
 }
 
 -- the VERSION is the one that is asked for
@@ -68,9 +72,26 @@ fresh_or_asked_left cluster namespace d c leaves is = ⊎_elim
     (λ new. let left = formatted_left d c leaves new.0 new.2 in inr (new.0, new.1, left, formatted_opens new.0 new.1.layout c left))
     is
 
+-- two VERSIONs that are asked for so say the same
+one_new : (cluster : Word) (namespace : ℕ) (v w : Version) → IsNewVersion cluster namespace v → IsNewVersion cluster namespace w → SaysTheSame v w
+one_new cluster namespace v w p q = record {
+  namespace = p.namespace ∙ sym q.namespace;
+  cluster = p.cluster ∙ sym q.cluster;
+  ctime = p.ctime ∙ sym q.ctime;
+  blockpool = p.blockpool ∙ sym q.blockpool;
+  layout = p.layout ∙ sym q.layout;
+}
+
 -- what a stop leaves since the beginning of a run
 pub asked_left : {told : Type 0} {cluster : Word} {namespace : ℕ} {a b : State} → told → IsLawful a → AllFresh a → EachFreshOrAsked told cluster namespace a b
-    → (contents : ℕ → Reads) (m : Moment) → Left b (moment a) contents m → (i : ℕ) → i < a.count → LeftFreshOrAsked cluster namespace (contents i)
-asked_left {told} {cluster} {namespace} {a} {b} tells lawful fresh run contents m left i below = fresh_or_asked_left cluster namespace (m.dirs i).disk (contents i) (left.leaves i)
-    (each_since (λ (j : ℕ) (d : Disk). j < a.count → FreshOrAsked cluster namespace d) tells lawful
-    (λ j inside. inl (left_fresh (disk_at a j) (a.reads j) (lawful.reads j) (fresh j inside))) run m left.since i below)
+    → (contents : ℕ → Reads) (m : Moment) → Left b (moment a) contents m → LeftByFormat cluster namespace a.count contents
+asked_left {told} {cluster} {namespace} {a} {b} tells lawful fresh run contents m left = record {
+  each = each;
+  choices = choices_open (IsNewVersion cluster namespace) (λ v is. is.layout) (one_new cluster namespace) a.count contents
+      (λ i below. ⊎_elim (λ still. inl still) (λ new. inr (new.0, new.1, new.2)) (each i below));
+}
+  where
+    each : (i : ℕ) → i < a.count → LeftFreshOrAsked cluster namespace (contents i)
+    each i below = fresh_or_asked_left cluster namespace (m.dirs i).disk (contents i) (left.leaves i)
+        (each_since (λ (j : ℕ) (d : Disk). j < a.count → FreshOrAsked cluster namespace d) tells lawful
+        (λ j inside. inl (left_fresh (disk_at a j) (a.reads j) (lawful.reads j) (fresh j inside))) run m left.since i below)

@@ -9,7 +9,7 @@ use Rattle.nn_server.specs.declared.status.Status.{Status}
 use Rattle.nn_server.specs.declared.status.Status.TheVariants.{Ok, Usage, Refused, HostFault, SourceFault, ScriptTooLong, Memory, OutFault}
 use Rattle.nn_cli.specs.Words.{Word}
 use Rattle.nn_cli.specs.Commands.{AskFormat, AskNoFormat}
-use Rattle.nn_cli.specs.Format.{IsNewVersion, LeftFreshOrAsked}
+use Rattle.nn_cli.specs.Format.{IsNewVersion, LeftByFormat}
 
 -- a run that ends so has changed nothing that reads
 abbrev pub ChangesNothing : List Word → Status → Type 0
@@ -30,12 +30,13 @@ pub record Keeps (told : Type 0) (words : List Word) (old new : State) (status :
   pub reads : told → ChangesNothing words status → (j : ℕ) → new.reads j ≡ old.reads j
 
 -- where the words ask to format directories that are not formatted, a stop at any moment since leaves each of them so, or with
--- the new namespace
+-- the new namespace; and each choice of them with one that has it opens to it
 abbrev pub StopsFreshOrAsked : List Word → State → State → Type 0
 StopsFreshOrAsked words old new = (cluster : Word) (namespace : ℕ) (dirs : List Word) → AskFormat words cluster namespace dirs → AllFresh old
-    → (contents : ℕ → Reads) (m : Moment) → Left new (moment old) contents m → (i : ℕ) → i < old.count → LeftFreshOrAsked cluster namespace (contents i)
+    → (contents : ℕ → Reads) (m : Moment) → Left new (moment old) contents m → LeftByFormat cluster namespace old.count contents
 
--- where they ask to format, each directory holds the new namespace and nothing else, and alone opens to it
+-- where they ask to format, each directory holds the new namespace and nothing else, and alone opens to it, as each choice of
+-- one or more does
 abbrev pub FormatsAsAsked : List Word → State → State → Type 0
 FormatsAsAsked words old new = (cluster : Word) (namespace : ℕ) (dirs : List Word) → AskFormat words cluster namespace dirs
     → (version : Version) × IsNewVersion cluster namespace version × AllFormatted version old new

@@ -6,7 +6,7 @@ use Rattle.nn_host.specs.Moments.{State}
 use Rattle.nn_host.specs.Runs.{Throughout, EachDir}
 use Rattle.nn_marks.specs.declared.version.Version.{Version}
 use Rattle.nn_state.specs.Typed.{FitsFresh}
-use Rattle.nn_open.specs.Formatted.{IsFormatted, ReadsFormatted, OpensEmpty}
+use Rattle.nn_open.specs.Formatted.{IsFormatted, ReadsFormatted, OpensEmpty, EachChoiceOpensEmpty}
 use Rattle.nn_cli.specs.Words.{Word}
 
 -- its VERSION: cTime 0, a block pool named after the namespace, and the layout of this program
@@ -21,7 +21,12 @@ pub record IsNewVersion (id : Word) (number : ℕ) (version : Version) : Type 0 
 abbrev pub LeftFreshOrAsked : Word → ℕ → Reads → Type 0
 LeftFreshOrAsked cluster namespace dir = FitsFresh dir ⊎ ((version : Version) × IsNewVersion cluster namespace version × ReadsFormatted version dir × OpensEmpty dir)
 
--- its disk is so
+-- of all directories: each is so, and each choice of them with one that is formatted opens to the new namespace
+pub record LeftByFormat (cluster : Word) (namespace count : ℕ) (contents : ℕ → Reads) : Type 0 where
+  pub each : (i : ℕ) → i < count → LeftFreshOrAsked cluster namespace (contents i)
+  pub choices : EachChoiceOpensEmpty count contents
+
+-- the disk of a directory is so
 abbrev pub FreshOrAsked : Word → ℕ → Disk → Type 0
 FreshOrAsked cluster namespace d = FitsFresh d ⊎ ((version : Version) × IsNewVersion cluster namespace version × IsFormatted version d)
 

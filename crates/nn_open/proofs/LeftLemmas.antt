@@ -1,53 +1,22 @@
 -- What a stop leaves of a directory while it is formatted, and once it is.
-use Rattle.std.proofs.Common.{◌≡◌, inl, inr, ⊎_elim, ℕ, ◌+◌, ◌<◌, ◌≤◌, Some, None, Result, Ok, Err, OnOk, sym, ◌∙◌, ap, subst, arith, lit<}
+use Rattle.std.proofs.Common.{◌≡◌, inl, inr, ⊎_elim, ℕ, ◌<◌, None, Result, Ok, Err, OnOk, sym, ◌∙◌, ap, subst}
 use Rattle.std.specs.Prelude.{pos, neg_ℤ}
-use Rattle.std.specs.Fmt.{decimal}
-use Rattle.std.proofs.lemmas.Option.{same_Some}
-use Rattle.nn_base.specs.declared.sub.Sub.TheVariants.{Current, Previous}
-use Rattle.nn_base.specs.declared.file_name.FileName.TheVariants.{Seen}
 use Rattle.nn_host.specs.Disk.{Disk, Reads, Leaves}
 use Rattle.nn_host.specs.Moments.{Moment, State, IsLawful, Left, moment, disk_at}
+use Rattle.nn_host.proofs.RunsLemmas.{throughout_refl}
 use Rattle.nn_host.proofs.LeftLemmas.{each_since}
 use Rattle.nn_state.specs.Table.{table_of}
 use Rattle.nn_state.specs.Typed.{FitsFresh}
-use Rattle.nn_marks.specs.Seen.{seen_text_of}
-use Rattle.nn_marks.specs.VersionText.{version_text_of}
 use Rattle.nn_marks.specs.declared.version.Version.{Version as Stamp}
-use Rattle.nn_marks.proofs.SeenLemmas.{number_in-decimal, seen_only}
-use Rattle.nn_marks.proofs.VersionTextLemmas.{reads_back}
 use Rattle.nn_tree.specs.Namespace.{empty_namespace}
-use Rattle.nn_chain.specs.Folder.{Folder, HasSeen}
 pub use Rattle.nn_remake.proofs.LeftLemmas.{fresh_left}
-use Rattle.nn_remake.proofs.LeftLemmas.{seven_left, made_left, made_intact, made_no_later, made_no_segment}
-use Rattle.nn_pick.proofs.AloneLemmas.{opens_alone}
-use Rattle.nn_open.specs.Formatted.{IsFormatted, ReadsFormatted, FreshOrNew, LeftFreshOrNew, OpensEmpty}
+use Rattle.nn_remake.proofs.LeftLemmas.{seven_left, made_left}
+use Rattle.nn_open.specs.Formatted.{IsFormatted, ReadsFormatted, FreshOrNew, LeftFreshOrNew}
 use Rattle.nn_open.specs.Answers.{AllFresh, AllFormatted, EachFreshOrNew, StopsFreshOrOpen, first_unformattable}
+use Rattle.nn_open.proofs.OpeningLemmas.{formatted_opens, left_fresh_or_open, all_choices_open}
 
 pub formatted_left : (d : Disk) (c : Reads) → Leaves d c → (version : Stamp) → IsFormatted version d → ReadsFormatted version c
 formatted_left d c leaves version is = made_left version 0 empty_namespace d c is leaves
-
--- ---- it opens
-
--- seen_txid says 0
-seen_none : (folder : Folder) → folder Seen ≡ Some (seen_text_of 0) → (id : ℕ) → HasSeen folder id → id ≤ 0 + 1
-seen_none folder there id (inr none) = omega (arith, none.0)
-seen_none folder there id (inl says) =
-    let text : says.0 ≡ seen_text_of 0 = same_Some says.0 (seen_text_of 0) (sym says.1 ∙ there) in
-    let zero : 0 ≡ id = same_Some 0 id (sym (number_in-decimal 0 (lit< tt)) ∙ seen_only says.0 (decimal 0) id (inl text) says.2) in
-    omega (arith, zero)
-
-pub formatted_opens : (version : Stamp) → version.layout ≡ neg_ℤ (pos 1001) → (c : Reads) → ReadsFormatted version c → OpensEmpty c
-formatted_opens version layout c is = opens_alone c version 0 empty_namespace (record {
-  normal = is.normal;
-  nothing_saved = is.whole.other_subs Previous (λ x. cc);
-  says = (version_text_of version, is.whole.version_file, reads_back version);
-  ours = layout;
-  intact = made_intact c is;
-  later = made_no_later c is;
-  segments = made_no_segment c is;
-  seen = seen_none (c.file Current) is.whole.seen_file;
-  room = lit< tt;
-})
 
 -- ---- what a stop leaves
 
@@ -66,9 +35,12 @@ left_by_format {a = a} version tells lawful fresh run c m left i below = fresh_o
     (each_since (λ j d. j < a.count → FreshOrNew version d) tells lawful
     (λ j under. inl (left_fresh (disk_at a j) (a.reads j) (lawful.reads j) (fresh j under))) run m left.since i below)
 
+-- as long as nothing was done
+pub none_made_yet : {told : Type 0} {a : State} (version : Stamp) → IsLawful a → AllFresh a → EachFreshOrNew told version a a
+none_made_yet {a = a} version lawful fresh = throughout_refl (λ tells. record { at = λ j below. inl (left_fresh (disk_at a j) (a.reads j) (lawful.reads j) (fresh j below)) })
+
 pub stops_fresh_or_open : {told : Type 0} {a b : State} (version : Stamp) → version.layout ≡ neg_ℤ (pos 1001) → told → IsLawful a → AllFresh a → EachFreshOrNew told version a b → StopsFreshOrOpen a b
-stops_fresh_or_open version layout tells lawful fresh run c m left i below =
-    ⊎_elim (λ is. inl is) (λ new. inr (formatted_opens version layout (c i) new)) (left_by_format version tells lawful fresh run c m left i below)
+stops_fresh_or_open {a = a} version layout tells lawful fresh run c m left = left_fresh_or_open version layout a.count c (left_by_format version tells lawful fresh run c m left)
 
 -- where no directory was refused, and the disk of each is formatted
 pub all_formatted : {T E : Type 0} (a b c : State) (version : Stamp) (result : Result T E) → version.layout ≡ neg_ℤ (pos 1001) → IsLawful c → b.count ≡ a.count → first_unformattable a.reads a.count ≡ None
@@ -79,6 +51,7 @@ all_formatted a b c version (Ok v) layout lawful same none disks = record {
   reads = reads;
   disks = λ i below. disks i (inside i below);
   opens = λ i below. formatted_opens version layout (c.reads i) (reads i below);
+  choices = all_choices_open version layout a.count c.reads reads;
 }
   where
     inside : (i : ℕ) → i < a.count → i < b.count

@@ -5,4 +5,5 @@ pub mod RunsLemmas
 pub mod SurveyLemmas
 pub mod MakeLemmas
 pub mod FormatLemmas
+pub mod OpeningLemmas
 pub mod LeftLemmas
