@@ -1,5 +1,5 @@
 -- What a run does to the directories, by the words and by the status that it ends with.
-use Rattle.std.specs.Prelude.{◌≡◌, ◌≢◌, ◌<◌, ℕ, List, None}
+use Rattle.std.specs.Prelude.{◌≡◌, ◌≢◌, ℕ, List, None}
 use Rattle.nn_host.specs.Disk.{Reads}
 use Rattle.nn_host.specs.Moments.{Moment, State, Left, moment}
 use Rattle.nn_host.specs.Runs.{Untouched}
