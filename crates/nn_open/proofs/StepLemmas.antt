@@ -9,9 +9,9 @@ use Rattle.nn_state.specs.declared.state.Seven.{Seven}
 use Rattle.nn_state.specs.Table.{seven_of}
 use Rattle.nn_state.specs.Typed.{FitsFresh}
 use Rattle.nn_remake.specs.Made.{IsBare}
-use Rattle.nn_remake.proofs.MakingLemmas.{seven_by}
+use Rattle.nn_remake.proofs.TableLemmas.{fresh_seven, seven_by}
 use Rattle.nn_remake.proofs.LeftLemmas.{some_left}
-use Rattle.nn_open.proofs.TableLemmas.{fresh_seven, fresh_has, has_fresh}
+use Rattle.nn_open.proofs.TableLemmas.{fresh_has, has_fresh}
 
 -- settling
 

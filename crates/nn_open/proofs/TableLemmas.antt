@@ -1,26 +1,11 @@
--- What NOT_FORMATTED says of the folders, and that a new namespace is NORMAL.
+-- What NOT_FORMATTED says of the folders.
 use Rattle.std.proofs.Common.{◌≡◌, Bool, true, false, Ok, refl, ◌∙◌, ap, arith}
 use Rattle.nn_host.specs.Disk.{Held}
 use Rattle.nn_state.specs.declared.state.Seven.{Seven}
-use Rattle.nn_state.specs.declared.state.StorageState.TheVariants.{NotFormatted, Normal}
+use Rattle.nn_state.specs.declared.state.StorageState.TheVariants.{NotFormatted}
 use Rattle.nn_state.specs.Table.{seven_of, table_of, rows, first_row}
 use Rattle.nn_state.specs.Typed.{FitsFresh}
-
--- a root, and nothing by which a state is told
-abbrev pub fresh_seven : Seven
-fresh_seven = record { root = true; current = false; previous = false; previous_tmp = false; removed_tmp = false; finalized_tmp = false; last_checkpoint_tmp = false }
-
--- the same, but for VERSION
-abbrev pub new_seven : Seven
-new_seven = record fresh_seven { current = true }
-
-pub fresh_table : table_of fresh_seven ≡ Ok NotFormatted
-unfolding table_of
-fresh_table = refl
-
-pub new_table : table_of new_seven ≡ Ok Normal
-unfolding table_of
-new_table = refl
+use Rattle.nn_remake.proofs.TableLemmas.{fresh_seven, fresh_table}
 
 abbrev flags : Bool → Bool → Bool → Bool → Bool → Bool → Bool → Seven
 flags root a b c d current previous = record { root = root; current = current; previous = previous; previous_tmp = a; removed_tmp = b; finalized_tmp = c; last_checkpoint_tmp = d }

@@ -22,7 +22,8 @@ use Rattle.nn_chain.specs.Chain.{HasNoSegment, HasNoLater}
 use Rattle.nn_chain.proofs.BareLemmas.{bare_chain}
 use Rattle.nn_remake.specs.Made.{JustCurrent, IsMade, ReadsMade, Serves, FreshOrMadeIsLeft}
 use Rattle.nn_remake.proofs.ChainLemmas.{not_segment}
-use Rattle.nn_remake.proofs.MakingLemmas.{just_seven, new_table, seven_by}
+use Rattle.nn_remake.proofs.TableLemmas.{new_table, seven_by}
+use Rattle.nn_remake.proofs.MakingLemmas.{just_seven}
 
 -- ---- a directory that isn't formatted
 

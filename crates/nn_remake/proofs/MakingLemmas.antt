@@ -12,8 +12,6 @@ use Rattle.nn_host.specs.Calls.{Called, Done}
 use Rattle.nn_host.specs.Runs.{OnlyAt}
 use Rattle.nn_host.proofs.FilesLemmas.{sub_other}
 use Rattle.nn_host.proofs.WorkLemmas.{work_once, work_trans, work_weaker}
-use Rattle.nn_state.specs.declared.state.Seven.{Seven}
-use Rattle.nn_state.specs.declared.state.StorageState.TheVariants.{NotFormatted, Normal}
 use Rattle.nn_state.specs.Table.{seven_of, table_of}
 use Rattle.nn_state.specs.Typed.{FitsFresh}
 use Rattle.nn_small.specs.Small.{OldOrNew, Written, replaced}
@@ -22,38 +20,11 @@ use Rattle.nn_marks.specs.declared.version.Version.{Version}
 use Rattle.nn_marks.specs.Seen.{seen_text_of}
 use Rattle.nn_marks.specs.VersionText.{version_text_of}
 use Rattle.nn_tree.specs.Namespace.{Namespace}
+use Rattle.nn_remake.proofs.TableLemmas.{fresh_seven, fresh_table, new_seven, new_table, seven_by}
 use Rattle.nn_remake.specs.Publishing.{Placed, IsImageUnder, digest_of, IsPublishing, WasWritten}
 use Rattle.nn_remake.specs.Made.{IsBare, JustCurrent, FreshOrMade, WasMade}
 
--- ---- the table of storage states
-
--- a root, and nothing by which a state is told
-abbrev pub fresh_seven : Seven
-fresh_seven = record { root = true; current = false; previous = false; previous_tmp = false; removed_tmp = false; finalized_tmp = false; last_checkpoint_tmp = false }
-
--- the same, but for VERSION
-abbrev pub new_seven : Seven
-new_seven = record fresh_seven { current = true }
-
-fresh_table : table_of fresh_seven ≡ Ok NotFormatted
-unfolding table_of
-fresh_table = refl
-
-pub new_table : table_of new_seven ≡ Ok Normal
-unfolding table_of
-new_table = refl
-
--- the same folders, and VERSION there or not
-pub seven_by : {A B : Type 0} (d : Held A) (e : Held B) → e.root ≡ d.root → ((s : Sub) → e.has s ≡ d.has s) → is_some (e.file Current name.Version) ≡ is_some (d.file Current name.Version) → seven_of e ≡ seven_of d
-seven_by d e root has version = λ k. record {
-  root = root k;
-  current = version k;
-  previous = has Previous k;
-  previous_tmp = has PreviousTmp k;
-  removed_tmp = has RemovedTmp k;
-  finalized_tmp = has FinalizedTmp k;
-  last_checkpoint_tmp = has LastCheckpointTmp k;
-}
+-- ---- a directory without any subfolder
 
 pub bare_fresh : (d : Disk) → IsSound d → IsBare d → FitsFresh d
 bare_fresh d sound bare = ap table_of is ∙ fresh_table

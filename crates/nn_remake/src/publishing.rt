@@ -27,7 +27,7 @@ use std::alloc::Global;
 ///
 /// The version is what VERSION of the folder says, if it has one. An image that is there is read whole, so that for a while
 /// there is a second tree in memory. After an `Err` the old image or the new one may be there, or none. Without `current`
-/// nothing is written, and `Ok` is answered.
+/// there is no place for it: nothing is written, which is no fault.
 pub fn publish<H: Host, T: Tree>(
     alloc: Global,
     host: &mut H,
