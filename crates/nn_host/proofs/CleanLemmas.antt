@@ -1,12 +1,12 @@
 -- While no call fails, a directory reads as its disk says: each file's synced bytes, and behind them those handed over since.
-use Rattle.std.proofs.Common.{◌≡◌, inl, inr, ℕ, ◌≤◌, List, [], ◌∷◌, ◌++◌, length, Option, Some, None, refl, sym, ◌∙◌, ap, subst, arith, append_assoc}
+use Rattle.std.proofs.Common.{◌≡◌, ℕ, ◌≤◌, List, [], ◌∷◌, ◌++◌, length, Option, Some, None, refl, sym, ◌∙◌, ap, subst, arith, append_assoc}
 use Rattle.std.proofs.lemmas.List.{append-nil}
 use Rattle.std.specs.Prelude.{Bool, true, false, not, if◌then◌else◌, ◌&&◌, is_some}
 use Rattle.nn_base.specs.declared.sub.Sub.{Sub}
 use Rattle.nn_base.specs.declared.file_name.FileName.{FileName}
 use Rattle.nn_base.specs.Names.{sub_eq, file_eq}
-use Rattle.nn_base.proofs.NamesLemmas.{sub_tells, file_tells}
 use Rattle.nn_host.specs.Disk.{Disk, Reads, File, Call, Look, MakeSub, MakeFile, Append, Sync, RenameFile, RenameSub, RemoveFile, RemoveSub, Settle, Leaves, LeavesFile, with_file, with_sub, disk_after, reads_after, added, certain, add_pending, fresh_file}
+use Rattle.nn_host.proofs.FilesLemmas.{same_file}
 
 -- a file as it reads where no call has failed since it was last made, synced or settled
 abbrev pub whole : Option File → Option (List ℕ)
@@ -43,26 +43,13 @@ some_whole : (f : Option File) → is_some (whole f) ≡ is_some f
 some_whole None = refl
 some_whole (Some f) = refl
 
--- setting a file to what reads there changes nothing that reads
-same_file : (r : Reads) (s : Sub) (n : FileName) → with_file r s n (r.file s n) ≡ r
-same_file r s n = λ i. record { root = r.root; has = r.has; file = λ q m. at q m i }
-  where
-    at : (q : Sub) (m : FileName) → (if sub_eq q s && file_eq m n then r.file s n else r.file q m) ≡ r.file q m
-    at q m = elim (sub_tells q s) [
-      | inr differ ↦ rw differ.0
-      | inl same ↦ elim (file_tells m n) [
-        | inr differ ↦ rw (same.0, differ.0)
-        | inl name ↦ rw (same.0, name.0) (λ i. r.file (sym same.1 i) (sym name.1 i))
-      ]
-    ]
-
 -- a call that returns keeps this
 pub clean_after : (call : Call) (d : Disk) → reads_after call (reading d) ≡ reading (disk_after call (reading d) d)
 clean_after Look d = refl
 clean_after (MakeSub s) d = (λ i. if d.root && not (d.has s) then sym (reading_sub d s true (λ _. None)) i else reading d) ∙ sym (reading_if (d.root && not (d.has s)) _ _)
 clean_after (MakeFile s n) d = (λ i. if d.has s then sym (reading_file d s n (Some fresh_file)) i else reading d) ∙ sym (reading_if (d.has s) _ _)
 clean_after (Append s n bytes) d = (λ i. with_file (reading d) s n (sym (whole_added bytes (d.file s n)) i)) ∙ sym (reading_file d s n _)
-clean_after (Sync s n) d = sym (same_file (reading d) s n) ∙ (λ i. with_file (reading d) s n (sym (whole_certain (whole (d.file s n))) i)) ∙ sym (reading_file d s n _)
+clean_after (Sync s n) d = sym (same_file (reading d) s n (whole (d.file s n)) refl) ∙ (λ i. with_file (reading d) s n (sym (whole_certain (whole (d.file s n))) i)) ∙ sym (reading_file d s n _)
 clean_after (RenameFile s a b) d =
     (λ i. if some_whole (d.file s a) i then with_file (with_file (reading d) s a None) s b (whole (d.file s a)) else reading d)
     ∙ (λ i. if is_some (d.file s a) then with_file (sym (reading_file d s a None) i) s b (whole (d.file s a)) else reading d)

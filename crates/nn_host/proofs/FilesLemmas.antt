@@ -1,6 +1,6 @@
 -- What stands in a directory after one change.
-use Rattle.std.proofs.Common.{◌≡◌, ◌≢◌, inl, inr, Option, refl}
-use Rattle.std.specs.Prelude.{Bool, true, false, if◌then◌else◌}
+use Rattle.std.proofs.Common.{◌≡◌, ◌≢◌, inl, inr, Option, refl, sym, ◌∙◌}
+use Rattle.std.specs.Prelude.{Bool, true, false, if◌then◌else◌, ◌&&◌}
 use Rattle.std.proofs.Math.Path.{fun_ext}
 use Rattle.nn_base.specs.declared.sub.Sub.{Sub}
 use Rattle.nn_base.specs.declared.file_name.FileName.{FileName}
@@ -33,3 +33,31 @@ module _ {A : Type 0} (d : Held A) where
 
   pub elsewhere : (s : Sub) (n : FileName) (v : Option A) (q : Sub) → q ≢ s → (with_file d s n v).file q ≡ d.file q
   elsewhere s n v q ne = fun_ext (λ m. let e = sub_other q s ne in rw e)
+
+  -- another file than the one that was set
+  pub file_kept : (q : Sub) (m : FileName) (v : Option A) (s : Sub) (n : FileName) → ((s ≡ q) × (n ≡ m) → ⊥) → (with_file d q m v).file s n ≡ d.file s n
+  file_kept q m v s n out = elim (sub_tells s q) [
+    | inr differ ↦ rw differ.0
+    | inl same ↦ elim (file_tells n m) [ inr differ ↦ rw (same.0, differ.0) | inl name ↦ absurd (out (same.1, name.1)) ]
+  ]
+
+  -- to set a file to what stands there changes nothing
+  pub same_file : (s : Sub) (n : FileName) (v : Option A) → d.file s n ≡ v → with_file d s n v ≡ d
+  same_file s n v is = λ i. record { root = d.root; has = d.has; file = λ q m. at q m i }
+    where
+      at : (q : Sub) (m : FileName) → (if sub_eq q s && file_eq m n then v else d.file q m) ≡ d.file q m
+      at q m = elim (sub_tells q s) [
+        | inr differ ↦ rw differ.0
+        | inl same ↦ elim (file_tells m n) [
+          | inr differ ↦ rw (same.0, differ.0)
+          | inl name ↦ rw (same.0, name.0) (sym is ∙ (λ i. d.file (sym same.1 i) (sym name.1 i)))
+        ]
+      ]
+
+  -- of two contents of one file the last stays
+  pub again : (s : Sub) (n : FileName) (v w : Option A) → with_file (with_file d s n v) s n w ≡ with_file d s n w
+  again s n v w = λ i. record { root = d.root; has = d.has; file = λ q m. last (sub_eq q s && file_eq m n) (d.file q m) i }
+    where
+      last : (c : Bool) (x : Option A) → (if c then w else (if c then v else x)) ≡ (if c then w else x)
+      last true x = refl
+      last false x = refl

@@ -1,11 +1,11 @@
--- Runs that change no directory, from call to call.
-use Rattle.std.proofs.lemmas.List.{append-nil}
-use Rattle.std.proofs.Common.{◌≡◌, ◌⊎◌, inl, inr, ⊎_elim, ℕ, ◌≤◌, List, ◌++◌, take, Bool, true, false, if◌then◌else◌, Result, Ok, Err, IsErr, is_ok, refl, sym, ◌∙◌, ap, subst, arith}
+-- Runs of any fact, runs that change no directory or say nothing, and which counts rose, from call to call.
+use Rattle.std.proofs.lemmas.List.{append-nil, take_all}
+use Rattle.std.proofs.Common.{◌≡◌, ◌⊎◌, inl, inr, ⊎_elim, ℕ, ◌<◌, ◌≤◌, List, ◌++◌, length, take, Bool, true, false, if◌then◌else◌, Result, Ok, Err, IsErr, is_ok, refl, sym, ◌∙◌, ap, subst, arith}
 use Rattle.std.proofs.lemmas.Bool.Decides.{eqb_tells}
 use Rattle.nn_host.specs.Disk.{Reads, Look}
 use Rattle.nn_host.specs.Moments.{Dir, Moment, State, Say, moment, disk_at, faults_at, Stops, Since}
 use Rattle.nn_host.specs.Calls.{Frame, IsCounted, Effect, Called, Spoke, next_count}
-use Rattle.nn_host.specs.Runs.{Throughout, Undisturbed, Untouched, OutWhole, SilentAfter, Looked, AllAnswered}
+use Rattle.nn_host.specs.Runs.{Throughout, Undisturbed, Untouched, OutWhole, SilentAfter, OutAsIn, Unspoken, SameCounts, RoseAt, Looked, AllAnswered}
 use Rattle.nn_host.proofs.MomentsLemmas.{since_recorded, since_unrecorded, since_called, moment_recorded, moment_unrecorded, moment_called, frame_refl, frame_trans}
 
 -- runs of any fact
@@ -27,6 +27,19 @@ throughout_weaker {b = b} p weaker = record {
   later = p.later;
   ends = λ tells. weaker tells b.now (p.ends tells);
   each = λ tells t m le since. ⊎_elim (λ w. inl w) (λ w. inr (weaker tells m w)) (p.each tells t m le since);
+}
+
+-- of a host that tells what the other does
+pub throughout_told : {told more : Type 0} {a b : State} {Q : Moment → Type 0} → (more → told) → Throughout told a b Q → Throughout more a b Q
+throughout_told tell p = record { count = p.count; later = λ t. p.later (tell t); ends = λ t. p.ends (tell t); each = λ t. p.each (tell t) }
+
+-- two facts of each moment
+pub throughout_both : {told : Type 0} {a b : State} {P Q : Moment → Type 0} → Throughout told a b P → Throughout told a b Q → Throughout told a b (λ m. P m × Q m)
+throughout_both p q = record {
+  count = p.count;
+  later = p.later;
+  ends = λ tells. (p.ends tells, q.ends tells);
+  each = λ tells t m le since. ⊎_elim (λ w. inl w) (λ one. ⊎_elim (λ w. inl w) (λ two. inr (one, two)) (q.each tells t m le since)) (p.each tells t m le since);
 }
 
 -- runs that change no directory
@@ -60,6 +73,53 @@ pub silent_after : {told : Type 0} {a b c : State} → OutWhole told a b → Sil
 silent_after p q = throughout_trans
     (throughout_weaker p (λ tells m same. inl same))
     (throughout_weaker q (λ tells m either. ⊎_elim (λ same. inl (same ∙ p.ends tells)) (λ said. inr said) either))
+
+-- runs in which nothing is said
+
+pub unspoken_refl : {told : Type 0} {a : State} → Unspoken told a a
+unspoken_refl {told} {a} = record { now = same; each = throughout_refl (λ tells. same) }
+  where
+    same : OutAsIn a a.now
+    same = record { said = refl; out_faults = refl }
+
+pub unspoken_trans : {told : Type 0} {a b c : State} → Unspoken told a b → Unspoken told b c → Unspoken told a c
+unspoken_trans {told} {a} {b} {c} p q = record { now = on c.now q.now; each = throughout_trans p.each (throughout_weaker q.each (λ tells m same. on m same)) }
+  where
+    on : (m : Moment) → OutAsIn b m → OutAsIn a m
+    on m same = record { said = same.said ∙ p.now.said; out_faults = same.out_faults ∙ p.now.out_faults }
+
+pub out_whole_unspoken : {told : Type 0} {a b : State} → Unspoken told a b → OutWhole told a b
+out_whole_unspoken p = throughout_weaker p.each (λ tells m same. same.out_faults)
+
+-- which counts rose
+
+pub counts_refl : {a : State} → SameCounts a a
+counts_refl = record { faults = λ j. refl }
+
+pub counts_trans : {a b c : State} → SameCounts a b → SameCounts b c → SameCounts a c
+counts_trans p q = record { faults = λ j. q.faults j ∙ p.faults j }
+
+pub counts_once : {i : ℕ} {a b : State} → Frame i a b → faults_at b i ≡ faults_at a i → SameCounts a b
+counts_once {i} {a} {b} frame here = record { faults = λ j. at j }
+  where
+    at : (j : ℕ) → faults_at b j ≡ faults_at a j
+    at j = elim (eqb_tells j i) [
+      | inl is ↦ subst (λ (k : ℕ). faults_at b k ≡ faults_at a k) (sym is.1) here
+      | inr differs ↦ ap (λ (d : Dir). d.faults) (frame.now.dirs j differs.1)
+    ]
+
+-- no count rose, and then that of one directory
+pub rose_last : {i : ℕ} {a b c : State} → SameCounts a b → i < a.count → Frame i b c → faults_at c i ≡ next_count (faults_at b i) → RoseAt i a c
+rose_last {i} p below frame rose = record {
+  below = below;
+  rose = rose ∙ ap next_count (p.faults i);
+  others = λ j ne. ap (λ (d : Dir). d.faults) (frame.now.dirs j ne) ∙ p.faults j;
+}
+
+pub rose_then : {i : ℕ} {a b c : State} → SameCounts a b → b.count ≡ a.count → RoseAt i b c → RoseAt i a c
+rose_then {i} p same q = record { below = subst (λ (n : ℕ). i < n) same q.below; rose = q.rose ∙ ap next_count (p.faults i); others = λ j ne. q.others j ne ∙ p.faults j }
+
+-- looks
 
 same_disk : {T E : Type 0} (i : ℕ) (old new : State) (result : Result T E) → Effect i Look old new result → disk_at new i ≡ disk_at old i
 same_disk i old new (Ok v) effect = effect.ok.disk
@@ -173,6 +233,14 @@ out_spoke {old = old} spoke = spoke_throughout (λ m. m.out_faults ≡ old.now.o
 -- an output that failed took a front of the bytes
 pub spoke_front : {T E told : Type 0} {bytes : List ℕ} {old new : State} {e : E} → Spoke {T = T} {E = E} told bytes old new (Err e) → told → (n : ℕ) × (new.now.said ≡ old.now.said ++ take n bytes)
 spoke_front {old = old} spoke tells = ⊎_elim (λ cut. cut.said) (λ unsaid. (0, unsaid.said ∙ sym (append-nil old.now.said))) (spoke.err tells)
+
+-- at each moment of it a front of the bytes was said
+pub said_front : {T E told : Type 0} {bytes : List ℕ} {old new : State} {result : Result T E} → Spoke told bytes old new result → Throughout told old new (λ m. (n : ℕ) × (m.said ≡ old.now.said ++ take n bytes))
+said_front {T} {E} {told} {bytes} {old} {new} {result} spoke = spoke_throughout (λ m. (n : ℕ) × (m.said ≡ old.now.said ++ take n bytes)) spoke (λ m stopped. stopped.2) (λ tells. at_end result spoke tells)
+  where
+    at_end : (r : Result T E) → Spoke told bytes old new r → told → (n : ℕ) × (new.now.said ≡ old.now.said ++ take n bytes)
+    at_end (Ok v) spoke tells = (length bytes, (spoke.ok tells).said ∙ ap (λ (x : List ℕ). old.now.said ++ x) (sym (take_all (length bytes) bytes (omega arith))))
+    at_end (Err e) spoke tells = spoke_front spoke tells
 
 -- runs in which each call was answered
 

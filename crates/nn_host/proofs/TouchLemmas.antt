@@ -3,9 +3,8 @@ use Rattle.std.proofs.Common.{◌≡◌, ◌≢◌, ◌⊎◌, inl, inr, Option,
 use Rattle.std.specs.Prelude.{Bool, true, false, not, if◌then◌else◌, ◌&&◌, is_some}
 use Rattle.nn_base.specs.declared.sub.Sub.{Sub}
 use Rattle.nn_base.specs.declared.file_name.FileName.{FileName}
-use Rattle.nn_base.proofs.NamesLemmas.{sub_tells, file_tells}
 use Rattle.nn_host.specs.Disk.{Disk, Reads, File, Call, Look, MakeSub, MakeFile, Append, Sync, RenameFile, RenameSub, RemoveFile, RemoveSub, Settle, with_file, with_sub}
-use Rattle.nn_host.proofs.FilesLemmas.{sub_other, either}
+use Rattle.nn_host.proofs.FilesLemmas.{sub_other, file_kept, either}
 use Rattle.nn_host.proofs.MakesLemmas.{Makes}
 
 -- the names that a call may change
@@ -30,12 +29,6 @@ Moves call s = ⊥
 
 -- another place in the directory
 module _ (d : Disk) (s : Sub) (n : FileName) where
-  file_kept : (q : Sub) (m : FileName) (v : Option File) → ((s ≡ q) × (n ≡ m) → ⊥) → (with_file d q m v).file s n ≡ d.file s n
-  file_kept q m v out = elim (sub_tells s q) [
-    | inr differ ↦ rw differ.0
-    | inl same ↦ elim (file_tells n m) [ inr differ ↦ rw (same.0, differ.0) | inl name ↦ absurd (out (same.1, name.1)) ]
-  ]
-
   sub_kept : (q : Sub) (b : Bool) (f : FileName → Option File) → s ≢ q → (with_sub d q b f).file s n ≡ d.file s n
   sub_kept q b f ne = let e = sub_other s q ne in rw e
 
@@ -48,14 +41,14 @@ module _ (d : Disk) (s : Sub) (n : FileName) where
 pub untouched : (call : Call) (r : Reads) (d part : Disk) (s : Sub) (n : FileName) → Makes call r d part → (Touches call s n → ⊥) → part.file s n ≡ d.file s n
 untouched Look r d part s n made out = absurd made
 untouched (MakeSub q) r d part s n made out = at_made d s n part _ made (one_of d s n (d.root && not (d.has q)) _ d (sub_kept d s n q true (λ _. None) out) refl)
-untouched (MakeFile q m) r d part s n made out = at_made d s n part _ made (one_of d s n (d.has q) _ d (file_kept d s n q m _ out) refl)
-untouched (Append q m bytes) r d part s n made out = at_made d s n part _ made (file_kept d s n q m _ out)
-untouched (Sync q m) r d part s n made out = at_made d s n part _ made (file_kept d s n q m _ out)
+untouched (MakeFile q m) r d part s n made out = at_made d s n part _ made (one_of d s n (d.has q) _ d (file_kept d q m _ s n out) refl)
+untouched (Append q m bytes) r d part s n made out = at_made d s n part _ made (file_kept d q m _ s n out)
+untouched (Sync q m) r d part s n made out = at_made d s n part _ made (file_kept d q m _ s n out)
 untouched (RenameFile q a b) r d part s n made out = at_made d s n part _ made
-    (one_of d s n (is_some (d.file q a)) _ d (file_kept (with_file d q a None) s n q b (d.file q a) (λ at. out (at.0, inr at.1)) ∙ file_kept d s n q a None (λ at. out (at.0, inl at.1))) refl)
+    (one_of d s n (is_some (d.file q a)) _ d (file_kept (with_file d q a None) q b (d.file q a) s n (λ at. out (at.0, inr at.1)) ∙ file_kept d q a None s n (λ at. out (at.0, inl at.1))) refl)
 untouched (RenameSub a b) r d part s n made out = at_made d s n part _ made
     (one_of d s n (d.has a && not (d.has b)) _ d (sub_kept (with_sub d a false (λ _. None)) s n b true (d.file a) (λ at. out (inr at)) ∙ sub_kept d s n a false (λ _. None) (λ at. out (inl at))) refl)
-untouched (RemoveFile q m) r d part s n made out = at_made d s n part _ made (file_kept d s n q m None out)
+untouched (RemoveFile q m) r d part s n made out = at_made d s n part _ made (file_kept d q m None s n out)
 untouched (RemoveSub q) r d part s n made out = made.other_files s n out
 untouched Settle r d part s n made out = absurd (out tt)
 

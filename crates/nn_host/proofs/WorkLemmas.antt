@@ -1,10 +1,10 @@
 -- Runs on one directory, from call to call.
-use Rattle.std.proofs.Common.{◌≡◌, ◌⊎◌, inl, inr, ⊎_elim, ℕ, ◌≤◌, List, Result, Ok, Err, OnOk, OnErr, sym, ◌∙◌, ap, subst, arith}
+use Rattle.std.proofs.Common.{◌≡◌, ◌⊎◌, inl, inr, ⊎_elim, ℕ, ◌≤◌, List, Result, Ok, Err, OnOk, OnErr, refl, sym, ◌∙◌, ap, subst, arith}
 use Rattle.std.proofs.lemmas.Bool.Decides.{eqb_tells}
-use Rattle.nn_host.specs.Disk.{Disk, Call}
+use Rattle.nn_host.specs.Disk.{Disk, Call, Look}
 use Rattle.nn_host.specs.Moments.{Dir, Moment, State, Since, Stops, Say, moment, disk_at, faults_at}
 use Rattle.nn_host.specs.Calls.{IsCounted, Called, Spoke, Said, Cut, Unsaid}
-use Rattle.nn_host.specs.Runs.{AtWork, OnlyAt, Throughout, EachDir}
+use Rattle.nn_host.specs.Runs.{AtWork, OnlyAt, Throughout, EachDir, Unspoken}
 use Rattle.nn_host.proofs.MomentsLemmas.{since_recorded, since_unrecorded, since_called, moment_called, same_but, frame_refl, frame_trans}
 use Rattle.nn_host.proofs.MakesLemmas.{Makes, flight_makes, now_makes}
 use Rattle.nn_host.proofs.RunsLemmas.{throughout_trans, throughout_weaker, untouched_spoke}
@@ -64,6 +64,21 @@ pub work_more : {T E told : Type 0} {i : ℕ} {call : Call} {a b c : State} {res
     → (told → P (disk_at b i) → (part : Disk) → Makes call (b.reads i) (disk_at b i) part → P part) → OnlyAt told i a c P
 work_more p called makes = work_trans p (work_once called p.ends (λ tells part made. makes tells (p.ends tells) part made))
 
+-- of a host that tells what the other does
+pub work_told : {told more : Type 0} {i : ℕ} {a b : State} {P : Disk → Type 0} → (more → told) → OnlyAt told i a b P → OnlyAt more i a b P
+work_told tell p = record { frame = p.frame; counted = p.counted; later = λ t. p.later (tell t); ends = λ t. p.ends (tell t); each = λ t. p.each (tell t) }
+
+-- looks: at each moment the disk is as it was at the beginning
+
+pub still_refl : {told : Type 0} {i : ℕ} {a : State} → OnlyAt told i a a (λ d. d ≡ disk_at a i)
+still_refl = work_refl (λ tells. refl)
+
+pub still_once : {T E told : Type 0} {i : ℕ} {a b : State} {result : Result T E} → Called told i Look a b result → OnlyAt told i a b (λ d. d ≡ disk_at a i)
+still_once called = work_once called (λ tells. refl) (λ tells part makes. absurd makes)
+
+pub still_then : {told : Type 0} {i : ℕ} {a b c : State} → OnlyAt told i a b (λ d. d ≡ disk_at a i) → OnlyAt told i b c (λ d. d ≡ disk_at b i) → OnlyAt told i a c (λ d. d ≡ disk_at a i)
+still_then p q = work_trans p (work_weaker q (λ tells d same. same ∙ p.ends tells))
+
 -- what holds of all directories, where this one alone is touched
 pub throughout_work : {told : Type 0} {i : ℕ} {a b : State} {P : Disk → Type 0} {Q : Moment → Type 0} → OnlyAt told i a b P → (told → (m : Moment) → AtWork i a m P → Q m) → Throughout told a b Q
 throughout_work {told} {i} {a} {b} p imp = record {
@@ -72,6 +87,23 @@ throughout_work {told} {i} {a} {b} p imp = record {
   ends = λ tells. imp tells b.now (record { others = p.frame.now; disk = p.ends tells; counted = p.counted });
   each = λ tells t m le since. ⊎_elim (λ w. inl w) (λ w. inr (imp tells m w)) (p.each tells t m le since);
 }
+
+-- a run on one directory says nothing
+pub unspoken_work : {told : Type 0} {i : ℕ} {a b : State} {P : Disk → Type 0} → OnlyAt told i a b P → Unspoken told a b
+unspoken_work p = record {
+  now = record { said = p.frame.now.said; out_faults = p.frame.now.out_faults };
+  each = throughout_work p (λ tells m work. record { said = work.others.said; out_faults = work.others.out_faults });
+}
+
+-- in it no directory's count falls
+pub counts_rise : {told : Type 0} {i : ℕ} {a b : State} {P : Disk → Type 0} → OnlyAt told i a b P → Throughout told a b (λ m. (j : ℕ) → faults_at a j ≤ (m.dirs j).faults)
+counts_rise {told} {i} {a} {b} {P} p = throughout_work p (λ tells m work j. at m work j)
+  where
+    at : (m : Moment) → AtWork i a m P → (j : ℕ) → faults_at a j ≤ (m.dirs j).faults
+    at m work j = elim (eqb_tells j i) [
+      | inl is ↦ subst (λ (k : ℕ). faults_at a k ≤ (m.dirs k).faults) (sym is.1) work.counted
+      | inr differs ↦ subst (λ (d : Dir). faults_at a j ≤ d.faults) (sym (work.others.dirs j differs.1)) (omega arith)
+    ]
 
 -- a run on one directory keeps what each directory has, if what it makes of this one has it at each count that hasn't fallen
 pub each_dir_work : {told : Type 0} {i : ℕ} {a b c : State} {P : Disk → Type 0} {K : ℕ → Dir → Type 0} → Throughout told a b (EachDir K) → OnlyAt told i b c P

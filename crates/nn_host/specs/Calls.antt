@@ -57,6 +57,10 @@ pub record Called {T E : Type 0} (told : Type 0) (i : ℕ) (call : Call) (old ne
   pub counted : IsCounted i old new result
   pub effect : told → Effect i call old new result
 
+-- the most bytes that the output is handed at once
+abbrev pub most_said : ℕ
+most_said = 65536
+
 -- the output took these bytes
 pub record Said (bytes : List ℕ) (old new : State) : Type 0 where
   pub recorded : Recorded (Say bytes) old new

@@ -1,5 +1,5 @@
 -- What holds over a run of calls: which directories it touched, and what each moment of it has.
-use Rattle.std.specs.Prelude.{◌≡◌, ◌⊎◌, ◌≤◌, ℕ, Bool, true, if◌then◌else◌}
+use Rattle.std.specs.Prelude.{◌≡◌, ◌≢◌, ◌⊎◌, ◌<◌, ◌≤◌, ℕ, Bool, true, if◌then◌else◌}
 use Rattle.nn_host.specs.Disk.{Disk}
 use Rattle.nn_host.specs.Moments.{Dir, Moment, State, Since, SameBut, moment, disk_at, faults_at}
 use Rattle.nn_host.specs.Calls.{Frame, next_count}
@@ -44,6 +44,26 @@ OutWhole told old new = Throughout told old new (λ m. m.out_faults ≡ old.now.
 -- from old to new nothing was said any more once the output had failed
 abbrev pub SilentAfter : Type 0 → State → State → Type 0
 SilentAfter told old new = Throughout told old new (λ m. (m.out_faults ≡ old.now.out_faults) ⊎ (m.said ≡ new.now.said))
+
+-- what was said, and how often the output failed, is as in this state
+pub record OutAsIn (old : State) (m : Moment) : Type 0 where
+  pub said : m.said ≡ old.now.said
+  pub out_faults : m.out_faults ≡ old.now.out_faults
+
+-- from old to new nothing was said, and the output didn't fail
+pub record Unspoken (told : Type 0) (old new : State) : Type 0 where
+  pub now : OutAsIn old new.now
+  pub each : Throughout told old new (OutAsIn old)
+
+-- no directory's count of faults rose
+pub record SameCounts (old new : State) : Type 0 where
+  pub faults : (j : ℕ) → faults_at new j ≡ faults_at old j
+
+-- the count of this directory rose, and that of no other
+pub record RoseAt (i : ℕ) (old new : State) : Type 0 where
+  pub below : i < old.count
+  pub rose : faults_at new i ≡ next_count (faults_at old i)
+  pub others : (j : ℕ) → j ≢ i → faults_at new j ≡ faults_at old j
 
 -- from old to new this directory alone was looked at, and nothing was said; all calls were answered, or the last one failed
 pub record Looked (told : Type 0) (i : ℕ) (old new : State) (answered : Bool) : Type 0 where

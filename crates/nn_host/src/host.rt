@@ -5,13 +5,16 @@ ghost use Rattle.nn_host.specs.declared.host.ListFault.TheVariants as list_fault
 ghost use Rattle.nn_host.specs.Disk.{Look, MakeSub, MakeFile, Append, Sync, RenameFile, RenameSub, RemoveFile, RemoveSub, Settle};
 ghost use Rattle.nn_host.specs.Listing.{IsListing, AreNames, host_part, bytes_of, IsRead};
 ghost use Rattle.nn_host.specs.Moments.{State, IsLawful};
-ghost use Rattle.nn_host.specs.Calls.{Called, Spoke};
+ghost use Rattle.nn_host.specs.Calls.{Called, Spoke, most_said};
 
 use nn_base::{DirNo, FileName, Sub};
 
 /// A call of the host failed: the system refused it for another reason than an absent name.
 #[derive(Clone, Copy, Debug, PartialEq, Eq)]
 pub struct Failed;
+
+/// The most bytes that `Host::say` takes at once. A longer text goes out in several pieces.
+pub const MOST_SAID: usize = 65_536;
 
 /// Why a folder wasn't listed.
 #[derive(Clone, Copy, Debug, PartialEq, Eq)]
@@ -141,8 +144,9 @@ pub trait Host {
         requires { i.0 < (state self.old).count }
         ensures { Called told i.0 Settle (state self.old) (state self.new) result };
 
-    /// Writes these bytes to the output, behind all that was said.
+    /// Writes these bytes to the output, behind all that was said: at most `MOST_SAID` at once.
     fn say(&mut self, bytes: &[u8]) -> Result<(), Failed>
+        requires { length bytes.now ≤ most_said }
         ensures { Spoke told bytes.now (state self.old) (state self.new) result };
 
     ghost lawful: { told → (host : Self) → IsLawful (state host) };

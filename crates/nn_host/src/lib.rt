@@ -5,5 +5,5 @@
 mod host;
 mod source;
 
-pub use host::{Failed, Host, ListFault};
+pub use host::{Failed, Host, ListFault, MOST_SAID};
 pub use source::Source;
