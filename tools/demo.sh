@@ -1,11 +1,16 @@
 #!/bin/sh
-# Runs the program over folders of its own: an empty, a formatted and a missing name directory, and eight new ones; and a script
-# in memory.
+# Runs the program, PROGRAM, over folders of its own in a temporary place, and says before each step what it shows.
+# Usage: demo.sh PROGRAM
 set -eu
 program=$1
 place=$(mktemp -d)
 trap 'rm -rf "$place"' EXIT
+cp "$(dirname "$0")/quick.script" "$(dirname "$0")/beside.awk" "$place"
 cd "$place"
+
+shows() {
+    printf '== %s\n' "$1"
+}
 
 run() {
     printf '$ namenode %s\n' "$*"
@@ -14,32 +19,31 @@ run() {
     printf '[status %s]\n\n' "$status"
 }
 
+shows 'An empty folder, and one whose current holds a VERSION: state names what each is.'
 mkdir -p empty formatted/current
 : > formatted/current/VERSION
-
 run state empty formatted
+
+shows 'A name directory that is not there refuses the command: status 2, and the number of the directory.'
 run state empty formatted missing
+
+shows 'A saved state and one on its way out beside a current that serves: no operation leaves this, and the reason is said.'
 mkdir -p formatted/previous formatted/removed.tmp
 run state formatted
 
+shows 'A new namespace in eight name directories.'
 mkdir a b c d e f g h
 run format --cluster=c1 --namespace 7 a b c d e f g h
 run state a b c d e f g h
+
+shows 'What a formatted directory holds. The MD5 file is one that md5sum reads.'
 (cd a/current && echo '$ cd a/current; ls; md5sum -c fsimage_0000000000000000000.md5' && ls && md5sum -c fsimage_0000000000000000000.md5)
 echo
+
+shows 'A directory that holds a state is never formatted over: the second format is refused, and changes nothing.'
 run format --cluster=c1 --namespace 7 a b c d e f g h
 
-cat > script <<'END'
-# A quota of three names, the directory itself among them.
-mkdir /logs
-quota /logs 3 -
-create /logs/today 3
-block /logs/today 9001
-close /logs/today
-mkdir /logs/old
-mkdir /logs/older
-list /logs
-roll
-END
-cat script
-run dry < script
+shows 'A script on a namespace in memory: names, quotas, refusals, a listing. Each line stands beside its answer.'
+echo '$ namenode dry < quick.script'
+"$program" dry < quick.script > answers
+awk -v answers=answers -f beside.awk quick.script
