@@ -1,11 +1,12 @@
 -- Runs of any fact, runs that change no directory or say nothing, and which counts rose, from call to call.
 use Rattle.std.proofs.lemmas.List.{append-nil, take_all}
-use Rattle.std.proofs.Common.{◌≡◌, ◌⊎◌, inl, inr, ⊎_elim, ℕ, ◌<◌, ◌≤◌, List, ◌++◌, length, take, Bool, true, false, if◌then◌else◌, Result, Ok, Err, IsErr, is_ok, refl, sym, ◌∙◌, ap, subst, arith}
+use Rattle.std.proofs.lemmas.List.Elements.{All-nil, All-cons, All-append}
+use Rattle.std.proofs.Common.{◌≡◌, ◌⊎◌, inl, inr, ⊎_elim, ℕ, ◌<◌, ◌≤◌, List, [], ◌∷◌, ◌++◌, length, take, Bool, true, false, if◌then◌else◌, Result, Ok, Err, IsErr, is_ok, refl, sym, ◌∙◌, ap, subst, arith, append_assoc}
 use Rattle.std.proofs.lemmas.Bool.Decides.{eqb_tells}
 use Rattle.nn_host.specs.Disk.{Reads, Look}
-use Rattle.nn_host.specs.Moments.{Dir, Moment, State, Say, moment, disk_at, faults_at, Stops, Since}
-use Rattle.nn_host.specs.Calls.{Frame, IsCounted, Effect, Called, Spoke, next_count}
-use Rattle.nn_host.specs.Runs.{Throughout, Undisturbed, Untouched, OutWhole, SilentAfter, OutAsIn, Unspoken, SameCounts, RoseAt, Looked, AllAnswered}
+use Rattle.nn_host.specs.Moments.{Dir, Moment, Entry, On, State, Say, moment, disk_at, faults_at, Stops, Since}
+use Rattle.nn_host.specs.Calls.{Frame, IsCounted, Effect, Recorded, Called, Spoke, next_count}
+use Rattle.nn_host.specs.Runs.{Throughout, Undisturbed, Untouched, OutWhole, SilentAfter, OutAsIn, Unspoken, SameCounts, RoseAt, Looked, AllAnswered, LooksAlone}
 use Rattle.nn_host.proofs.MomentsLemmas.{since_recorded, since_unrecorded, since_called, moment_recorded, moment_unrecorded, moment_called, frame_refl, frame_trans}
 
 -- runs of any fact
@@ -157,6 +158,7 @@ looked_once {T} {E} {told} {i} {old} {new} {result} called = record {
         (since_called i Look old new result (called.effect tells) t m le since);
   };
   reads = λ tells. same_reads result (called.effect tells);
+  calls = λ tells. one_entry result (called.effect tells);
 }
   where
     at_end : told → Undisturbed old new.now
@@ -170,9 +172,19 @@ looked_once {T} {E} {told} {i} {old} {new} {result} called = record {
     same_reads (Ok v) effect answered = effect.ok.reads
     same_reads (Err e) effect answered = cc
 
+    one : List Entry
+    one = record { ended = old.ended; before = old.now; event = On i Look } ∷ []
+
+    recorded : Recorded (On i Look) old new → LooksAlone i old new
+    recorded r = (one, r.trace, All-cons (λ (e : Entry). e.event ≡ On i Look) (record { ended = old.ended; before = old.now; event = On i Look }) [] refl (All-nil (λ (e : Entry). e.event ≡ On i Look)))
+
+    one_entry : (r : Result T E) → Effect i Look old new r → LooksAlone i old new
+    one_entry (Ok v) effect = recorded effect.ok.recorded
+    one_entry (Err e) effect = ⊎_elim (λ broken. recorded broken.recorded) (λ unbegun. ([], unbegun.unrecorded.trace ∙ sym (append-nil old.trace), All-nil (λ (e : Entry). e.event ≡ On i Look))) effect.err
+
 -- nothing was asked yet
 pub looked_refl : {told : Type 0} {i : ℕ} {a : State} → Looked told i a a true
-looked_refl {told} {i} {a} = record { frame = frame_refl i a; counted = refl; untouched = untouched_refl; out = out_whole_refl; reads = λ tells is. refl }
+looked_refl {told} {i} {a} = record { frame = frame_refl i a; counted = refl; untouched = untouched_refl; out = out_whole_refl; reads = λ tells is. refl; calls = λ tells. ([], sym (append-nil a.trace), All-nil (λ (e : Entry). e.event ≡ On i Look)) }
 
 -- a look that was answered, and then further ones
 pub looked_then : {told : Type 0} {i : ℕ} {a b c : State} {answered : Bool} → Looked told i a b true → Looked told i b c answered → Looked told i a c answered
@@ -182,6 +194,13 @@ looked_then {told} {i} {a} {b} {c} {answered} p q = record {
   untouched = untouched_trans p.untouched q.untouched;
   out = out_whole_trans p.out q.out;
   reads = λ tells is. q.reads tells is ∙ p.reads tells refl;
+  calls = λ tells.
+      let first = p.calls tells in
+      let more = q.calls tells in (
+        first.0 ++ more.0,
+        more.1 ∙ ap (λ (l : List Entry). l ++ more.0) first.1 ∙ append_assoc a.trace first.0 more.0,
+        All-append (λ (e : Entry). e.event ≡ On i Look) first.0 more.0 first.2 more.2,
+      );
 }
 
 -- a function that hands a failed look on has failed

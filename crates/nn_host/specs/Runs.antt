@@ -1,7 +1,7 @@
 -- What holds over a run of calls: which directories it touched, and what each moment of it has.
-use Rattle.std.specs.Prelude.{◌≡◌, ◌≢◌, ◌⊎◌, ◌<◌, ◌≤◌, ℕ, Bool, true, if◌then◌else◌}
-use Rattle.nn_host.specs.Disk.{Disk}
-use Rattle.nn_host.specs.Moments.{Dir, Moment, State, Since, SameBut, moment, disk_at, faults_at}
+use Rattle.std.specs.Prelude.{◌≡◌, ◌≢◌, ◌⊎◌, ◌<◌, ◌≤◌, ℕ, Bool, true, List, ◌++◌, All, if◌then◌else◌}
+use Rattle.nn_host.specs.Disk.{Disk, Look}
+use Rattle.nn_host.specs.Moments.{Dir, Moment, Entry, On, State, Since, SameBut, moment, disk_at, faults_at}
 use Rattle.nn_host.specs.Calls.{Frame, next_count}
 
 -- nothing has changed since but this directory, whose disk has P and whose count of faults hasn't fallen
@@ -65,6 +65,10 @@ pub record RoseAt (i : ℕ) (old new : State) : Type 0 where
   pub rose : faults_at new i ≡ next_count (faults_at old i)
   pub others : (j : ℕ) → j ≢ i → faults_at new j ≡ faults_at old j
 
+-- from old to new the record of calls grew by looks at this directory alone
+abbrev pub LooksAlone : ℕ → State → State → Type 0
+LooksAlone i old new = (looks : List Entry) × (new.trace ≡ old.trace ++ looks) × All (λ e. e.event ≡ On i Look) looks
+
 -- from old to new this directory alone was looked at, and nothing was said; all calls were answered, or the last one failed
 pub record Looked (told : Type 0) (i : ℕ) (old new : State) (answered : Bool) : Type 0 where
   pub frame : Frame i old new
@@ -72,6 +76,7 @@ pub record Looked (told : Type 0) (i : ℕ) (old new : State) (answered : Bool) 
   pub untouched : Untouched told old new
   pub out : OutWhole told old new
   pub reads : told → answered ≡ true → new.reads i ≡ old.reads i
+  pub calls : told → LooksAlone i old new
 
 -- from old to new each call was answered, and no directory was changed
 pub record AllAnswered (told : Type 0) (old new : State) : Type 0 where

@@ -9,6 +9,8 @@ use Rattle.nn_host.specs.Moments.{State, IsLawful, disk_at}
 use Rattle.nn_host.specs.Calls.{Called, Done}
 use Rattle.nn_host.specs.Runs.{OnlyAt}
 use Rattle.nn_host.proofs.FilesLemmas.{there}
+-- until each user takes it from there
+pub use Rattle.nn_host.proofs.FilesLemmas.{again}
 use Rattle.nn_host.proofs.LawfulLemmas.{unread}
 use Rattle.nn_host.proofs.MakesLemmas.{Makes}
 use Rattle.nn_host.proofs.TouchLemmas.{Touches, Moves, untouched, unmoved, rooted}
@@ -19,22 +21,14 @@ use Rattle.nn_small.proofs.SmallLemmas.{replaced_tmp}
 -- what each step leaves
 
 module _ {A : Type 0} (d : Held A) (s : Sub) where
-  -- the last of two contents stays
-  pub again : (n : FileName) (v w : Option A) → with_file (with_file d s n v) s n w ≡ with_file d s n w
-  again n v w = λ i. record { root = d.root; has = d.has; file = λ q m. last (sub_eq q s && file_eq m n) (d.file q m) i }
-    where
-      last : (c : Bool) (x : Option A) → (if c then w else (if c then v else x)) ≡ (if c then w else x)
-      last true x = refl
-      last false x = refl
-
   pub made : (fresh : A) (add : A → List ℕ → A) (n : FileName) → d.has s ≡ true → after fresh add (MakeFile s n) d ≡ with_file d s n (Some fresh)
   made fresh add n has = λ i. if has i then with_file d s n (Some fresh) else d
 
   pub filled : (fresh : A) (add : A → List ℕ → A) (n : FileName) (a : A) (bytes : List ℕ) → after fresh add (Append s n bytes) (with_file d s n (Some a)) ≡ with_file d s n (Some (add a bytes))
-  filled fresh add n a bytes = (λ i. with_file (with_file d s n (Some a)) s n (added add bytes (there d s n (Some a) i))) ∙ again n (Some a) (Some (add a bytes))
+  filled fresh add n a bytes = (λ i. with_file (with_file d s n (Some a)) s n (added add bytes (there d s n (Some a) i))) ∙ again d s n (Some a) (Some (add a bytes))
 
   pub named : (fresh : A) (add : A → List ℕ → A) (tmp name : FileName) (a : A) → after fresh add (RenameFile s tmp name) (with_file d s tmp (Some a)) ≡ replaced d s tmp name (Some a)
-  named fresh add tmp name a = λ i. if is_some (there d s tmp (Some a) i) then with_file (again tmp (Some a) None i) s name (there d s tmp (Some a) i) else with_file d s tmp (Some a)
+  named fresh add tmp name a = λ i. if is_some (there d s tmp (Some a) i) then with_file (again d s tmp (Some a) None i) s name (there d s tmp (Some a) i) else with_file d s tmp (Some a)
 
 -- at each moment the file is the old one or the new one
 

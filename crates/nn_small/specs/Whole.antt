@@ -1,5 +1,5 @@
 -- What a whole read of a file answers.
-use Rattle.std.specs.Prelude.{ℕ, nat_le, Bool, true, false, List, length, Option, Some, None, Result, Ok, Err, if◌then◌else◌}
+use Rattle.std.specs.Prelude.{◌≤◌, ℕ, nat_le, Bool, true, false, List, length, Option, Some, None, Result, Ok, Err, if◌then◌else◌}
 use Rattle.nn_small.specs.declared.read.ReadAll.{ReadAll}
 use Rattle.nn_small.specs.declared.read.ReadAll.TheVariants.{Failed, Absent, TooLarge, Memory}
 
@@ -7,6 +7,11 @@ use Rattle.nn_small.specs.declared.read.ReadAll.TheVariants.{Failed, Absent, Too
 abbrev pub whole_of : ℕ → Option (List ℕ) → Result (List ℕ) ReadAll
 whole_of limit None = Err Absent
 whole_of limit (Some bytes) = if nat_le (length bytes) limit then Ok bytes else Err (TooLarge (length bytes))
+
+-- the file is there, and has at most so many bytes
+abbrev pub FitsLimit : ℕ → Option (List ℕ) → Type 0
+FitsLimit limit None = ⊥
+FitsLimit limit (Some bytes) = length bytes ≤ limit
 
 -- no call of the host failed
 abbrev pub answered : {T : Type 0} → Result T ReadAll → Bool

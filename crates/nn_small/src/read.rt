@@ -1,9 +1,9 @@
 // Reading a file whole.
-ghost use Rattle.std.specs.Prelude.{◌≡◌, ◌≢◌, ◌⊎◌, ◌<◌, ◌≤◌, ℕ, Ok, Err, IfOk, IfErr, take, vec_len};
+ghost use Rattle.std.specs.Prelude.{◌≡◌, ◌≢◌, ◌⊎◌, ◌<◌, ◌≤◌, ℕ, Ok, Err, IfOk, IfErr, IsErrOf, length, vec_len};
 ghost use Rattle.nn_host.specs.Listing.{bytes_of};
 ghost use Rattle.nn_host.specs.Moments.{disk_at};
 ghost use Rattle.nn_host.specs.Runs.{OnlyAt, Looked};
-ghost use Rattle.nn_small.specs.Whole.{answered, whole_of};
+ghost use Rattle.nn_small.specs.Whole.{FitsLimit, answered, whole_of};
 
 use nn_base::{DirNo, FileName, Sub};
 use nn_host::{Failed, Host};
@@ -43,7 +43,7 @@ impl From<AllocError> for ReadAll {
 }
 
 /// All bytes of the file, which are at most `limit`. It changes nothing, and reserves as much memory as the file has
-/// bytes.
+/// bytes, once it is known that the limit allows them.
 ///
 /// A file that has lost bytes since its size was asked, which no host that tells does, reads as what is left of it.
 pub fn read_all<H: Host>(
@@ -57,6 +57,7 @@ pub fn read_all<H: Host>(
     requires { i.0 < (H.state host.old).count }
     ensures ok { H.told → IfOk result (λ bytes. whole_of limit (((H.state host.old).reads i.0).file sub name) ≡ Ok bytes.items) }
     ensures err { H.told → IfErr result (λ fault. fault ≢ ReadAll.Failed → fault ≢ ReadAll.Memory → whole_of limit (((H.state host.old).reads i.0).file sub name) ≡ Err fault) }
+    ensures memory { H.told → IsErrOf result ReadAll.Memory → FitsLimit limit (((H.state host.old).reads i.0).file sub name) }
     ensures within { IfOk result (λ bytes. vec_len bytes ≤ limit) }
     ensures above { IfErr result (λ fault. (size : ℕ) → fault ≡ ReadAll.TooLarge size → limit < size) }
     ensures kept { Looked H.told i.0 (H.state host.old) (H.state host.new) (answered result) }
@@ -74,7 +75,7 @@ pub fn read_all<H: Host>(
     read_front(alloc, host, i, sub, *file, size)
 }
 
-// The first bytes of a file, so many, or fewer where it has no more.
+// All bytes of a file of this size.
 fn read_front<H: Host>(
     alloc: Global,
     host: &mut H,
@@ -83,8 +84,9 @@ fn read_front<H: Host>(
     name: FileName,
     size: u64,
 ) -> Result<Vec<u8>, ReadAll>
-    requires { i.0 < (H.state host.old).count }
-    ensures ok { H.told → IfOk result (λ bytes. bytes.items ≡ take size (bytes_of (((H.state host.old).reads i.0).file sub name))) }
+    requires below { i.0 < (H.state host.old).count }
+    requires size { H.told → size ≡ length (bytes_of (((H.state host.old).reads i.0).file sub name)) }
+    ensures ok { H.told → IfOk result (λ bytes. bytes.items ≡ bytes_of (((H.state host.old).reads i.0).file sub name)) }
     ensures err { IfErr result (λ fault. (fault ≡ ReadAll.Failed) ⊎ (fault ≡ ReadAll.Memory)) }
     ensures within { IfOk result (λ bytes. vec_len bytes ≤ size) }
     ensures kept { Looked H.told i.0 (H.state host.old) (H.state host.new) (answered result) }

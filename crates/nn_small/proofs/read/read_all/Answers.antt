@@ -1,5 +1,6 @@
 use Rattle.nn_host.proofs.RunsLemmas.{looked_once, looked_then}
-use Rattle.nn_small.proofs.ReadLemmas.{looked_failed, still_once, still_then}
+use Rattle.nn_host.proofs.WorkLemmas.{still_once, still_then}
+use Rattle.nn_small.proofs.ReadLemmas.{looked_failed}
 use Rattle.nn_small.proofs.read.read_all.Goals as goal
 
 pub returns-in_err-has_file-clause-kept : goal.returns-in_err-has_file-clause-kept

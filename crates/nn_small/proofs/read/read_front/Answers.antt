@@ -1,7 +1,7 @@
 use Rattle.std.proofs.Common.{arith}
-use Rattle.nn_host.proofs.RunsLemmas.{looked_once}
-use Rattle.nn_host.proofs.RunsLemmas.{looked_refl}
-use Rattle.nn_small.proofs.ReadLemmas.{looked_failed, looked_memory, still_refl, still_once, read_is}
+use Rattle.nn_host.proofs.RunsLemmas.{looked_refl, looked_once}
+use Rattle.nn_host.proofs.WorkLemmas.{still_refl, still_once}
+use Rattle.nn_small.proofs.ReadLemmas.{looked_failed, looked_memory, read_is}
 use Rattle.nn_small.proofs.read.read_front.Goals as goal
 
 pub returns-in_err-bytes-clause-kept : goal.returns-in_err-bytes-clause-kept
@@ -17,7 +17,7 @@ pub returns-clause-ok : goal.returns-clause-ok
 returns-clause-ok g c = λ tells.
     let file = ((g.H.Host.state c.args.host.now).reads c.args.i.0).file c.args.sub c.args.name in
     let full = c.in_ok-bytes.ensures.len in
-    read_is file c.args.size c.in_ok-bytes.bytes.len _ (c.in_ok-count.ensures.value tells) c.truncate.ensures.items (omega arith) (omega arith)
+    read_is file c.in_ok-bytes.bytes.len _ (c.in_ok-count.ensures.value tells) c.truncate.ensures.items (omega (arith, c.requires.size tells)) (omega arith)
 
 pub returns-in_err-bytes-clause-any_moment : goal.returns-in_err-bytes-clause-any_moment
 returns-in_err-bytes-clause-any_moment g c = still_refl

@@ -4,9 +4,9 @@ use Rattle.nn_base.specs.declared.sub.Sub.TheVariants.{Current, Previous}
 use Rattle.nn_base.specs.declared.file_name.FileName.TheVariants.{Version}
 use Rattle.nn_host.specs.Disk.{Reads}
 use Rattle.nn_host.proofs.RunsLemmas.{looked_once, looked_then, looked_failed}
+use Rattle.nn_host.proofs.WorkLemmas.{still_once, still_then}
 use Rattle.nn_state.specs.Table.{seven_of}
 use Rattle.nn_state.specs.declared.state.Seven.{Seven}
-use Rattle.nn_state.proofs.ReadingLemmas.{kept_once, kept_more, kept_run}
 use Rattle.nn_state.proofs.reading.look.Goals as goal
 
 pub returns-in_err-root-clause-kept : goal.returns-in_err-root-clause-kept
@@ -29,16 +29,16 @@ returns-in_err-under_way-clause-kept g c =
     looked_failed _ (looked_then third c.in_err-under_way.ensures.kept) c.from_residual-in_err-under_way.ensures.0
 
 pub returns-in_err-root-clause-any_moment : goal.returns-in_err-root-clause-any_moment
-returns-in_err-root-clause-any_moment g c = kept_once c.in_err-root.ensures.call
+returns-in_err-root-clause-any_moment g c = still_once c.in_err-root.ensures.call
 
 pub returns-in_err-current-clause-any_moment : goal.returns-in_err-current-clause-any_moment
-returns-in_err-current-clause-any_moment g c = kept_more (kept_once c.in_ok-root.ensures.call) c.in_err-current.ensures.call
+returns-in_err-current-clause-any_moment g c = still_then (still_once c.in_ok-root.ensures.call) (still_once c.in_err-current.ensures.call)
 
 pub returns-in_err-previous-clause-any_moment : goal.returns-in_err-previous-clause-any_moment
-returns-in_err-previous-clause-any_moment g c = kept_more (kept_more (kept_once c.in_ok-root.ensures.call) c.in_ok-current.ensures.call) c.in_err-previous.ensures.call
+returns-in_err-previous-clause-any_moment g c = still_then (still_then (still_once c.in_ok-root.ensures.call) (still_once c.in_ok-current.ensures.call)) (still_once c.in_err-previous.ensures.call)
 
 pub returns-in_err-under_way-clause-any_moment : goal.returns-in_err-under_way-clause-any_moment
-returns-in_err-under_way-clause-any_moment g c = kept_run (kept_more (kept_more (kept_once c.in_ok-root.ensures.call) c.in_ok-current.ensures.call) c.in_ok-previous.ensures.call) c.in_err-under_way.ensures.any_moment
+returns-in_err-under_way-clause-any_moment g c = still_then (still_then (still_then (still_once c.in_ok-root.ensures.call) (still_once c.in_ok-current.ensures.call)) (still_once c.in_ok-previous.ensures.call)) c.in_err-under_way.ensures.any_moment
 
 pub returns : goal.returns
 returns g c =
@@ -58,5 +58,5 @@ returns g c =
             last_checkpoint_tmp = (c.in_ok-under_way.ensures.import tells ∙ ap (λ (s : Seven). s.last_checkpoint_tmp) at_third) k;
           };
       kept = looked_then third c.in_ok-under_way.ensures.kept;
-      any_moment = kept_run (kept_more (kept_more (kept_once c.in_ok-root.ensures.call) c.in_ok-current.ensures.call) c.in_ok-previous.ensures.call) c.in_ok-under_way.ensures.any_moment;
+      any_moment = still_then (still_then (still_then (still_once c.in_ok-root.ensures.call) (still_once c.in_ok-current.ensures.call)) (still_once c.in_ok-previous.ensures.call)) c.in_ok-under_way.ensures.any_moment;
     }

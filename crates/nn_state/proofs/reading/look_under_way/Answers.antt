@@ -2,7 +2,7 @@ use Rattle.std.proofs.Common.{◌∙◌, ap, refl}
 use Rattle.nn_base.specs.declared.sub.Sub.TheVariants.{RemovedTmp, FinalizedTmp, LastCheckpointTmp}
 use Rattle.nn_host.specs.Disk.{Reads}
 use Rattle.nn_host.proofs.RunsLemmas.{looked_once, looked_then, looked_failed}
-use Rattle.nn_state.proofs.ReadingLemmas.{kept_once, kept_more}
+use Rattle.nn_host.proofs.WorkLemmas.{still_once, still_then}
 use Rattle.nn_state.proofs.reading.look_under_way.Goals as goal
 
 pub returns-in_err-upgrade-clause-kept : goal.returns-in_err-upgrade-clause-kept
@@ -25,16 +25,16 @@ returns-in_err-import-clause-kept g c =
     looked_failed _ (looked_then third (looked_once c.in_err-import.ensures.call)) c.from_residual-in_err-import.ensures.0
 
 pub returns-in_err-upgrade-clause-any_moment : goal.returns-in_err-upgrade-clause-any_moment
-returns-in_err-upgrade-clause-any_moment g c = kept_once c.in_err-upgrade.ensures.call
+returns-in_err-upgrade-clause-any_moment g c = still_once c.in_err-upgrade.ensures.call
 
 pub returns-in_err-rollback-clause-any_moment : goal.returns-in_err-rollback-clause-any_moment
-returns-in_err-rollback-clause-any_moment g c = kept_more (kept_once c.in_ok-upgrade.ensures.call) c.in_err-rollback.ensures.call
+returns-in_err-rollback-clause-any_moment g c = still_then (still_once c.in_ok-upgrade.ensures.call) (still_once c.in_err-rollback.ensures.call)
 
 pub returns-in_err-finalize-clause-any_moment : goal.returns-in_err-finalize-clause-any_moment
-returns-in_err-finalize-clause-any_moment g c = kept_more (kept_more (kept_once c.in_ok-upgrade.ensures.call) c.in_ok-rollback.ensures.call) c.in_err-finalize.ensures.call
+returns-in_err-finalize-clause-any_moment g c = still_then (still_then (still_once c.in_ok-upgrade.ensures.call) (still_once c.in_ok-rollback.ensures.call)) (still_once c.in_err-finalize.ensures.call)
 
 pub returns-in_err-import-clause-any_moment : goal.returns-in_err-import-clause-any_moment
-returns-in_err-import-clause-any_moment g c = kept_more (kept_more (kept_more (kept_once c.in_ok-upgrade.ensures.call) c.in_ok-rollback.ensures.call) c.in_ok-finalize.ensures.call) c.in_err-import.ensures.call
+returns-in_err-import-clause-any_moment g c = still_then (still_then (still_then (still_once c.in_ok-upgrade.ensures.call) (still_once c.in_ok-rollback.ensures.call)) (still_once c.in_ok-finalize.ensures.call)) (still_once c.in_err-import.ensures.call)
 
 pub returns : goal.returns
 returns g c =
@@ -47,5 +47,5 @@ returns g c =
       finalize = λ tells. c.in_ok-finalize.ensures.value tells ∙ ap (λ (r : Reads). r.has FinalizedTmp) (second.reads tells refl);
       «import» = λ tells. c.in_ok-import.ensures.value tells ∙ ap (λ (r : Reads). r.has LastCheckpointTmp) (third.reads tells refl);
       kept = looked_then third (looked_once c.in_ok-import.ensures.call);
-      any_moment = kept_more (kept_more (kept_more (kept_once c.in_ok-upgrade.ensures.call) c.in_ok-rollback.ensures.call) c.in_ok-finalize.ensures.call) c.in_ok-import.ensures.call;
+      any_moment = still_then (still_then (still_then (still_once c.in_ok-upgrade.ensures.call) (still_once c.in_ok-rollback.ensures.call)) (still_once c.in_ok-finalize.ensures.call)) (still_once c.in_ok-import.ensures.call);
     }
