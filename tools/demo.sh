@@ -27,7 +27,7 @@ run state empty formatted
 shows 'A name directory that is not there refuses the command: status 2, and the number of the directory.'
 run state empty formatted missing
 
-shows 'A saved state and one on its way out beside a current that serves: no operation leaves this, and the reason is said.'
+shows 'No operation leaves removed.tmp beside both current/VERSION and previous: the directory is inconsistent, and why is said.'
 mkdir -p formatted/previous formatted/removed.tmp
 run state formatted
 
