@@ -6,7 +6,7 @@ use Rattle.nn_base.specs.declared.sub.Sub.{Sub}
 use Rattle.nn_base.specs.declared.sub.Sub.TheVariants.{Current, Previous, PreviousTmp, RemovedTmp, FinalizedTmp, LastCheckpointTmp, PreviousCheckpoint}
 use Rattle.nn_base.specs.declared.file_name.FileName.{FileName}
 use Rattle.nn_base.specs.declared.file_name.FileName.TheVariants.{Version, VersionTmp, Seen, SeenTmp, Image, Md5, Md5Tmp, Ckpt, Edits, InProgress}
-use Rattle.nn_base.specs.Names.{sub_code, sub_eq, form_of, first_of, last_of, file_eq}
+use Rattle.nn_base.specs.Names.{sub_code, sub_eq, form_of, first_id, last_id, file_eq}
 
 sub_at : ℕ → Sub
 sub_at zero = Current
@@ -48,7 +48,7 @@ file_at (suc (suc (suc (suc (suc (suc (suc zero))))))) a b = Ckpt a
 file_at (suc (suc (suc (suc (suc (suc (suc (suc zero)))))))) a b = Edits (a, b)
 file_at (suc (suc (suc (suc (suc (suc (suc (suc (suc n))))))))) a b = InProgress a
 
-file_at-parts : (n : FileName) → file_at (form_of n) (first_of n) (last_of n) ≡ n
+file_at-parts : (n : FileName) → file_at (form_of n) (first_id n) (last_id n) ≡ n
 unfolding file_at
 file_at-parts Version = refl
 file_at-parts VersionTmp = refl
@@ -61,16 +61,16 @@ file_at-parts (Ckpt id) = refl
 file_at-parts (Edits span) = refl
 file_at-parts (InProgress first) = refl
 
-pub parts_are_injective : (a b : FileName) → form_of a ≡ form_of b → first_of a ≡ first_of b → last_of a ≡ last_of b → a ≡ b
+pub parts_are_injective : (a b : FileName) → form_of a ≡ form_of b → first_id a ≡ first_id b → last_id a ≡ last_id b → a ≡ b
 parts_are_injective a b x y z = sym (file_at-parts a) ∙ (λ i. file_at (x i) (y i) (z i)) ∙ file_at-parts b
 
 pub file_tells : (a b : FileName) → ((file_eq a b ≡ true) × (a ≡ b)) ⊎ ((file_eq a b ≡ false) × (a ≢ b))
 file_tells a b = elim (eqb_tells (form_of a) (form_of b)) [
-  | inr other ↦ inr (ap (λ t. t && (first_of a == first_of b && last_of a == last_of b)) other.0, λ e. other.1 (ap form_of e))
-  | inl same ↦ elim (eqb_tells (first_of a) (first_of b)) [
-    | inr other ↦ inr ((λ i. same.0 i && (other.0 i && last_of a == last_of b)), λ e. other.1 (ap first_of e))
-    | inl first ↦ elim (eqb_tells (last_of a) (last_of b)) [
-      | inr other ↦ inr ((λ i. same.0 i && (first.0 i && other.0 i)), λ e. other.1 (ap last_of e))
+  | inr other ↦ inr (ap (λ t. t && (first_id a == first_id b && last_id a == last_id b)) other.0, λ e. other.1 (ap form_of e))
+  | inl same ↦ elim (eqb_tells (first_id a) (first_id b)) [
+    | inr other ↦ inr ((λ i. same.0 i && (other.0 i && last_id a == last_id b)), λ e. other.1 (ap first_id e))
+    | inl first ↦ elim (eqb_tells (last_id a) (last_id b)) [
+      | inr other ↦ inr ((λ i. same.0 i && (first.0 i && other.0 i)), λ e. other.1 (ap last_id e))
       | inl last ↦ inl ((λ i. same.0 i && (first.0 i && last.0 i)), parts_are_injective a b same.1 first.1 last.1)
     ]
   ]

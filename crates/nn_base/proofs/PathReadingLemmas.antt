@@ -6,7 +6,8 @@ use Rattle.std.proofs.lemmas.Bool.{eq-eqb, ne_eqb, cases_lt}
 use Rattle.nn_base.specs.declared.path.fault.PathFault.{PathFault}
 use Rattle.nn_base.specs.declared.path.fault.PathFault.TheVariants.{Empty, Relative, LongPath, BadName, LongName, Deep, Memory}
 use Rattle.nn_base.specs.Paths.{Names, Bytes, IsPath, text_of}
-use Rattle.nn_base.specs.PathText.{parts, parts_of, is_absolute, when, first_of, fault_among, fault_of}
+use Rattle.nn_base.specs.First.{when, first_of}
+use Rattle.nn_base.specs.PathText.{parts, parts_of, is_absolute, fault_among, fault_of}
 use Rattle.nn_base.proofs.PathTextLemmas.{IsFair, fault_of_fair, no_fault_of_fair, fair_is_path, text_of-parts_of, parts_of-text_of, no_path_has_fault, some_bytes}
 
 -- ---- faults

@@ -8,7 +8,9 @@ use Rattle.std.proofs.lemmas.List.Elements.{All-nil, All-cons, All-head, All-tai
 use Rattle.nn_base.specs.declared.path.fault.PathFault.{PathFault}
 use Rattle.nn_base.specs.declared.path.fault.PathFault.TheVariants.{Empty, Relative, LongPath, BadName, LongName, Deep}
 use Rattle.nn_base.specs.Paths.{Names, Bytes, IsPath, is_name, is_bad_name, is_long_name, has_slash, joined, text_of}
-use Rattle.nn_base.specs.PathText.{parts, parts_of, is_absolute, when, first_of, part_fault, fault_among, fault_of}
+use Rattle.nn_base.specs.First.{when, first_of}
+use Rattle.nn_base.proofs.FirstLemmas.{none_first, first_behind, unsaid, untrue}
+use Rattle.nn_base.specs.PathText.{parts, parts_of, is_absolute, part_fault, fault_among, fault_of}
 
 abbrev split : Bytes → Names
 split text = slice_split (λ b. b == 47) text
@@ -122,20 +124,6 @@ joined_is_shorter [] = omega arith
 joined_is_shorter (x ∷ names) = omega arith
 
 -- ---- the first fault
-
-none_first : (fault : Option PathFault) (rest : List (Option PathFault)) → first_of (fault ∷ rest) ≡ None → (fault ≡ None) × (first_of rest ≡ None)
-none_first None rest h = (refl, h)
-none_first (Some fault) rest h = cc
-
-first_behind : (fault : Option PathFault) (rest : List (Option PathFault)) → fault ≡ None → first_of (fault ∷ rest) ≡ first_of rest
-first_behind fault rest h = rw h refl
-
-unsaid : (test : Bool) (fault : PathFault) → test ≡ false → when test fault ≡ None
-unsaid test fault h = rw h refl
-
-untrue : (test : Bool) (fault : PathFault) → when test fault ≡ None → test ≡ false
-untrue true fault h = cc
-untrue false fault h = refl
 
 names_have_no_fault : (names : Names) → All IsNamed names → fault_among names ≡ None
 names_have_no_fault [] h = refl

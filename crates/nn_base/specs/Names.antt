@@ -32,29 +32,29 @@ form_of (Edits span) = 8
 form_of (InProgress first) = 9
 
 -- the ids that stand in a file name, with 0 where there is none
-abbrev pub first_of : FileName → ℕ
-first_of Version = 0
-first_of VersionTmp = 0
-first_of Seen = 0
-first_of SeenTmp = 0
-first_of (Image id) = id
-first_of (Md5 id) = id
-first_of (Md5Tmp id) = id
-first_of (Ckpt id) = id
-first_of (Edits span) = span.0
-first_of (InProgress first) = first
+abbrev pub first_id : FileName → ℕ
+first_id Version = 0
+first_id VersionTmp = 0
+first_id Seen = 0
+first_id SeenTmp = 0
+first_id (Image id) = id
+first_id (Md5 id) = id
+first_id (Md5Tmp id) = id
+first_id (Ckpt id) = id
+first_id (Edits span) = span.0
+first_id (InProgress first) = first
 
-abbrev pub last_of : FileName → ℕ
-last_of Version = 0
-last_of VersionTmp = 0
-last_of Seen = 0
-last_of SeenTmp = 0
-last_of (Image id) = 0
-last_of (Md5 id) = 0
-last_of (Md5Tmp id) = 0
-last_of (Ckpt id) = 0
-last_of (Edits span) = span.1
-last_of (InProgress first) = 0
+abbrev pub last_id : FileName → ℕ
+last_id Version = 0
+last_id VersionTmp = 0
+last_id Seen = 0
+last_id SeenTmp = 0
+last_id (Image id) = 0
+last_id (Md5 id) = 0
+last_id (Md5Tmp id) = 0
+last_id (Ckpt id) = 0
+last_id (Edits span) = span.1
+last_id (InProgress first) = 0
 
 abbrev pub file_eq : FileName → FileName → Bool
-file_eq a b = form_of a == form_of b && (first_of a == first_of b && last_of a == last_of b)
+file_eq a b = form_of a == form_of b && (first_id a == first_id b && last_id a == last_id b)

@@ -1,8 +1,10 @@
 -- The texts of paths: what stands between their slashes, and what can be wrong with them, in the order in which it is told.
-use Rattle.std.specs.Prelude.{Bool, false, not, ◌==◌, List, [], ◌∷◌, length, drop, map, nat_lt, Option, Some, None, if◌then◌else◌}
+use Rattle.std.specs.Prelude.{Bool, false, not, ◌==◌, [], ◌∷◌, length, drop, map, nat_lt, Option}
 use Rattle.std.specs.List.{slice_split}
 use Rattle.nn_base.specs.declared.path.fault.PathFault.{PathFault}
 use Rattle.nn_base.specs.declared.path.fault.PathFault.TheVariants.{Empty, Relative, LongPath, BadName, LongName, Deep}
+use Rattle.nn_base.specs.Limits.{most_path, most_levels}
+use Rattle.nn_base.specs.First.{when, first_of}
 use Rattle.nn_base.specs.Paths.{Bytes, Names, is_bad_name, is_long_name}
 
 -- the parts that slashes separate; no bytes have no part
@@ -18,16 +20,6 @@ abbrev pub is_absolute : Bytes → Bool
 is_absolute [] = false
 is_absolute (byte ∷ rest) = byte == 47
 
--- a fault where the test says so
-abbrev pub when : Bool → PathFault → Option PathFault
-when test fault = if test then Some fault else None
-
--- the first of the faults that a list has
-abbrev pub first_of : List (Option PathFault) → Option PathFault
-first_of [] = None
-first_of (None ∷ rest) = first_of rest
-first_of (Some fault ∷ rest) = Some fault
-
 abbrev pub part_fault : Bytes → Option PathFault
 part_fault part = first_of (when (is_bad_name part) BadName ∷ when (is_long_name part) LongName ∷ [])
 
@@ -40,7 +32,7 @@ unfoldable pub fault_of : Bytes → Option PathFault
 fault_of text = first_of (
     when (length text == 0) Empty
     ∷ when (not (is_absolute text)) Relative
-    ∷ when (nat_lt 8000 (length text)) LongPath
+    ∷ when (nat_lt most_path (length text)) LongPath
     ∷ fault_among (parts_of text)
-    ∷ when (nat_lt 1000 (length (parts_of text))) Deep
+    ∷ when (nat_lt most_levels (length (parts_of text))) Deep
     ∷ [])

@@ -4,6 +4,7 @@ use Rattle.std.specs.List.{list_any}
 use Rattle.std.specs.declared.cmp.Ordering.{Ordering}
 use Rattle.std.specs.Ordering.{nat_cmp}
 use Rattle.std.specs.Cmp.Lexicographic.{slice_cmp, pointwise}
+use Rattle.nn_base.specs.Limits.{most_name, most_levels, most_path}
 
 abbrev pub Bytes : Type 0
 Bytes = List ℕ
@@ -29,7 +30,7 @@ abbrev pub is_bad_name : Bytes → Bool
 is_bad_name part = (length part == 0) || is_dots part || has_barred part
 
 abbrev pub is_long_name : Bytes → Bool
-is_long_name part = nat_lt 255 (length part)
+is_long_name part = nat_lt most_name (length part)
 
 abbrev pub has_slash : Bytes → Bool
 has_slash part = list_any (λ b. b == 47) part
@@ -53,8 +54,8 @@ text_of (name ∷ rest) = joined (name ∷ rest)
 -- names that make a path: at most 1,000 levels, and 8,000 bytes of text
 pub record IsPath (names : Names) : Type 0 where
   pub named : All (λ name. is_name name ≡ true) names
-  pub levels : length names ≤ 1000
-  pub size : length (joined names) ≤ 8000
+  pub levels : length names ≤ most_levels
+  pub size : length (joined names) ≤ most_path
 
 -- whether p is a prefix of q, q itself included
 abbrev pub is_under : Names → Names → Bool

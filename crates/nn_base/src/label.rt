@@ -1,7 +1,10 @@
 // The owner or the group of a node.
 ghost use Rattle.std.specs.Prelude.{◌≡◌, ◌≤◌, length};
 ghost use Rattle.std.specs.Option.{SomeIff};
+ghost use Rattle.nn_base.specs.Labels.{IsLabel};
+ghost use Rattle.nn_base.specs.Limits.{most_label};
 
+use crate::limits::MOST_LABEL;
 use std::marker::Model;
 
 /// The name of an owner or of a group, 1 to 32 bytes. It keeps them in place, as a node has two and copies them often.
@@ -12,26 +15,27 @@ pub struct Label {
 }
 
 impl Model for Label {
-    ghost use Rattle.std.specs.Prelude.{List, ℕ, take, length, replicate, ◌++◌, ◌-◌};
-    ghost use Rattle.nn_base.specs.Labels.{IsPadded, length_held, padded_back};
+    ghost use Rattle.std.specs.Prelude.{List, ℕ, take, length};
+    ghost use Rattle.nn_base.specs.Labels.{HoldsLabel};
+    ghost use Rattle.nn_base.specs.Padded.{padded, length-text, padded-text};
 
     ghost Value = { List ℕ };
 
     ghost view = { λ a. take a.len a.buf };
 
-    ghost invariant = { λ a. IsPadded a.buf a.len };
+    ghost invariant = { λ a. HoldsLabel a.buf a.len };
 
-    ghost inverse = { λ v. record { buf = v ++ replicate (32 - length v) 0; len = length v } };
+    ghost inverse = { λ v. record { buf = padded 32 v; len = length v } };
 
-    ghost inverse_ok = { λ a h i. record { buf = padded_back a.buf a.len h i; len = length_held a.buf a.len h i } };
+    ghost inverse_ok = { λ a h i. record { buf = padded-text 32 a.buf a.len h.padded i; len = length-text 32 a.buf a.len h.padded i } };
 }
 
 impl Label {
     /// The label of these bytes. `None` stands for a text that is empty or longer than 32 bytes.
     pub fn of(bytes: &[u8]) -> Option<Label>
-        ensures { SomeIff result ((1 ≤ length bytes.now) × (length bytes.now ≤ 32)) bytes.now }
+        ensures { SomeIff result (IsLabel bytes.now) bytes.now }
     {
-        if bytes.is_empty() || 32 < bytes.len() {
+        if bytes.is_empty() || MOST_LABEL < bytes.len() {
             return None;
         }
         let mut buf = [0; 32];
@@ -48,7 +52,7 @@ impl Label {
     pub fn bytes(&self) -> &[u8]
         ensures value { result.now ≡ self.now }
         ensures some { 1 ≤ length self.now }
-        ensures few { length self.now ≤ 32 }
+        ensures few { length self.now ≤ most_label }
     {
         &self.buf[..self.len]
     }

@@ -3,9 +3,11 @@
 #![tactic(auto)]
 
 pub mod decimal;
+mod dir_set;
 mod file_name;
 mod ids;
 mod label;
+pub mod limits;
 mod name;
 mod path;
 mod sub;
@@ -13,6 +15,7 @@ mod sub;
 mod tests;
 mod word;
 
+pub use dir_set::DirSet;
 pub use file_name::FileName;
 pub use ids::{DirNo, FirstTxid, NoMemory, Span, Txid};
 pub use label::Label;

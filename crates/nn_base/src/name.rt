@@ -1,9 +1,11 @@
 // One component of a path.
 ghost use Rattle.std.specs.Prelude.{◌≡◌, ◌≤◌, true, length, IfOk};
 ghost use Rattle.std.specs.Option.{SomeIff};
+ghost use Rattle.nn_base.specs.Limits.{most_name};
 ghost use Rattle.nn_base.specs.Paths as paths;
 
 use crate::NoMemory;
+use crate::limits::MOST_NAME;
 use std::alloc::Global;
 use std::marker::Model;
 
@@ -60,7 +62,7 @@ impl Name {
     pub fn is(bytes: &[u8]) -> bool
         ensures { result ≡ paths.is_name bytes.now }
     {
-        !(is_bad_name(bytes) || 255 < bytes.len() || has_slash(bytes))
+        !(is_bad_name(bytes) || MOST_NAME < bytes.len() || has_slash(bytes))
     }
 
     /// The name of these bytes. `None` stands for bytes that are no name.
@@ -87,7 +89,7 @@ impl Name {
     pub fn bytes(&self) -> &[u8]
         ensures value { result.now ≡ self.now }
         ensures name { paths.is_name self.now ≡ true }
-        ensures short { length self.now ≤ 255 }
+        ensures short { length self.now ≤ most_name }
     {
         &self.bytes
     }

@@ -7,14 +7,11 @@ ghost use Rattle.std.specs.Prelude.{◌≡◌, ◌-◌, ◌<◌, ◌^◌, true, 
 ghost use Rattle.std.specs.Option.{SomeIff};
 ghost use Rattle.nn_base.specs.Paths.{IsPath, is_name, joined};
 
+use crate::limits::{MOST_LEVELS, MOST_PATH};
 use crate::{Name, NoMemory};
 pub use fault::PathFault;
 use std::alloc::Global;
 use std::marker::Model;
-
-const MAX_LEVELS: usize = 1000;
-
-const MAX_BYTES: usize = 8000;
 
 /// A path, as its names from the root. It has at most 1,000 levels and 8,000 bytes of text, the limits of HDFS (`MAX_PATH_DEPTH`, `MAX_PATH_LENGTH`).
 #[derive(Drop)]
@@ -47,10 +44,10 @@ impl Path {
     pub fn of(names: Vec<Name>) -> Option<Path>
         ensures { SomeIff result (IsPath names.items) names.items }
     {
-        if MAX_LEVELS < names.len() {
+        if MOST_LEVELS < names.len() {
             return None;
         }
-        if MAX_BYTES < text_len(&names) {
+        if MOST_PATH < text_len(&names) {
             return None;
         }
         Some(Path { names })

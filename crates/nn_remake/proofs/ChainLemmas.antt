@@ -4,7 +4,7 @@ use Rattle.std.proofs.lemmas.Bool.{cases_order}
 use Rattle.std.proofs.lemmas.Bool.Decides.{eqb_tells}
 use Rattle.nn_base.specs.declared.file_name.FileName.{FileName}
 use Rattle.nn_base.specs.declared.file_name.FileName.TheVariants.{Image, Md5, Md5Tmp, Ckpt}
-use Rattle.nn_base.specs.Names.{first_of}
+use Rattle.nn_base.specs.Names.{first_id}
 use Rattle.nn_marks.specs.declared.version.Version.{Version}
 use Rattle.nn_tree.specs.Namespace.{Namespace}
 use Rattle.nn_record.specs.declared.transaction.Record.{Record}
@@ -90,8 +90,8 @@ module _ (version : Version) (id : ℕ) where
   intact_kept : (old new : Folder) → SameBut id old new → (other : ℕ) (ns : Namespace) → other ≢ id → IsIntact old version other ns → IsIntact new version other ns
   intact_kept old new same other ns ne p = record {
     bytes = p.bytes;
-    there = same.others (Image other) (λ e. ne (ap first_of e)) (λ e. cc) (λ e. cc) (λ e. cc) ∙ p.there;
-    digest = same.others (Md5 other) (λ e. cc) (λ e. ne (ap first_of e)) (λ e. cc) (λ e. cc) ∙ p.digest;
+    there = same.others (Image other) (λ e. ne (ap first_id e)) (λ e. cc) (λ e. cc) (λ e. cc) ∙ p.there;
+    digest = same.others (Md5 other) (λ e. cc) (λ e. ne (ap first_id e)) (λ e. cc) (λ e. cc) ∙ p.digest;
     image = p.image;
   }
 

@@ -5,7 +5,7 @@ use Rattle.std.specs.Prelude.{is_some}
 use Rattle.nn_base.specs.declared.sub.Sub.TheVariants.{Current, Previous}
 use Rattle.nn_base.specs.declared.file_name.FileName.{FileName}
 use Rattle.nn_base.specs.declared.file_name.FileName.TheVariants as name
-use Rattle.nn_base.specs.Names.{first_of}
+use Rattle.nn_base.specs.Names.{first_id}
 use Rattle.nn_host.specs.Disk.{Disk, Reads, File, Leaves, LeavesFile, certain}
 use Rattle.nn_host.proofs.CleanLemmas.{sure_left}
 use Rattle.nn_state.specs.Table.{seven_of, table_of}
@@ -80,7 +80,7 @@ module _ {version : Version} {id : ℕ} {ns : Namespace} (c : Reads) (made : Rea
 
   pub made_no_later : HasNoLater (folder_at c Current) id
   made_no_later later ranged above =
-      let other : name.Image later ≢ name.Image id = λ e. let same : later ≡ id = ap first_of e in omega (arith, above, same) in
+      let other : name.Image later ≢ name.Image id = λ e. let same : later ≡ id = ap first_id e in omega (arith, above, same) in
       made.whole.other_files (name.Image later) (λ e. cc) (λ e. cc) other (λ e. cc)
 
   pub made_no_segment : HasNoSegment (folder_at c Current)

@@ -3,7 +3,7 @@ ghost use Rattle.std.specs.Prelude.{◌≡◌, ◌≢◌, false, None, Some, Mat
 ghost use Rattle.nn_base.specs.Paths.{Names, IsPath, has_slash, text_of};
 ghost use Rattle.nn_base.specs.PathText.{parts, part_fault, fault_among, fault_of};
 
-use super::MAX_BYTES;
+use crate::limits::MOST_PATH;
 use crate::name::is_bad_name;
 use crate::{Name, Path, PathFault};
 use std::alloc::Global;
@@ -22,7 +22,7 @@ impl Path {
         if *first != b'/' {
             return Err(PathFault::Relative);
         }
-        if MAX_BYTES < text.len() {
+        if MOST_PATH < text.len() {
             return Err(PathFault::LongPath);
         }
         let names = names_in(alloc, rest)?;
