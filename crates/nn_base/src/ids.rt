@@ -20,6 +20,15 @@ impl<T: Drop> From<AllocFailed<T>> for NoMemory {
     }
 }
 
+/// What tells that memory ran out. An error with a variant for it is made of any of them, by one `From`.
+pub trait OutOfMemory {}
+
+impl OutOfMemory for NoMemory {}
+
+impl OutOfMemory for AllocError {}
+
+impl<T: Drop> OutOfMemory for AllocFailed<T> {}
+
 /// A name directory, by its place among those that are listed, from 0 on.
 #[derive(Clone, Copy, Debug, PartialEq, Eq)]
 pub struct DirNo(pub u8);

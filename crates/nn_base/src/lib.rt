@@ -17,7 +17,7 @@ mod word;
 
 pub use dir_set::DirSet;
 pub use file_name::FileName;
-pub use ids::{DirNo, FirstTxid, NoMemory, Span, Txid};
+pub use ids::{DirNo, FirstTxid, NoMemory, OutOfMemory, Span, Txid};
 pub use label::Label;
 pub use name::Name;
 pub use path::{Path, PathFault};

@@ -1,8 +1,7 @@
 // Why a text is no path.
 ghost use Rattle.std.specs.Prelude.{◌≡◌};
 
-use crate::NoMemory;
-use std::alloc::AllocFailed;
+use crate::OutOfMemory;
 use thiserror::Error;
 
 /// What is wrong with the text of a path. Of several faults the first is told in the order below, but that the parts
@@ -32,22 +31,12 @@ pub enum PathFault {
     Memory,
 }
 
-impl From<NoMemory> for PathFault {
+impl<M: OutOfMemory + Drop> From<M> for PathFault {
     ghost use Rattle.nn_base.specs.declared.path.fault.PathFault.TheVariants.{Memory};
 
     ghost from_gives = { λ _ fault. fault ≡ Memory };
 
-    fn from(_: NoMemory) -> PathFault {
-        PathFault::Memory
-    }
-}
-
-impl<T: Drop> From<AllocFailed<T>> for PathFault {
-    ghost use Rattle.nn_base.specs.declared.path.fault.PathFault.TheVariants.{Memory};
-
-    ghost from_gives = { λ _ fault. fault ≡ Memory };
-
-    fn from(_: AllocFailed<T>) -> PathFault {
+    fn from(_: M) -> PathFault {
         PathFault::Memory
     }
 }
