@@ -11,7 +11,7 @@ place=$(mktemp -d)
 trap 'rm -rf "$place"' EXIT
 
 calls=mkdir,openat,write,fsync,fdatasync,rename,unlink,unlinkat,rmdir
-(cd crates/nn_files && strace -ff -y -qq -e trace=$calls -o "$place/trace" rt try --test) > "$place/out" 2>&1 || {
+(cd crates/tests_host && strace -ff -y -qq -e trace=$calls -o "$place/trace" rt try --test) > "$place/out" 2>&1 || {
     cat "$place/out"
     exit 1
 }

@@ -9,8 +9,6 @@ mod looks;
 mod paths;
 mod segment;
 mod source;
-#[cfg(test)]
-mod tests;
 
 pub use host::FileHost;
 pub use source::StdSource;

@@ -1,7 +1,4 @@
 // The source over standard input.
-#[cfg(test)]
-mod tests;
-
 ghost use Rattle.std.specs.Prelude.{◌≡◌, []};
 
 use crate::looks::read_some;

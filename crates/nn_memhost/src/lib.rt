@@ -17,5 +17,3 @@ pub use past::Part;
 pub use source::MemSource;
 pub use stop::{Choice, Keep, StopFault};
 
-#[cfg(test)]
-mod tests;

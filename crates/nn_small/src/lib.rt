@@ -3,8 +3,6 @@
 #![tactic(auto)]
 
 mod read;
-#[cfg(test)]
-mod tests;
 mod write;
 
 pub use read::{ReadAll, read_all};

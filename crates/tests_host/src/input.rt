@@ -1,5 +1,5 @@
 // A runtime whose standard input is interrupted, refused and short.
-use crate::StdSource;
+use nn_files::StdSource;
 use nn_host::{Failed, Source};
 use std::alloc::Allocator;
 use std::io;

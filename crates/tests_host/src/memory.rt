@@ -2,9 +2,9 @@
 ghost use Rattle.std.specs.Prelude.{◌≡◌, ◌<◌};
 ghost use Rattle.nn_memhost.specs.Mem.{mem_state};
 
-use crate::{Choice, Keep, MemHost, MemSource, Part, StopFault};
 use nn_base::{DirNo, FileName, NoMemory, Sub, Txid};
 use nn_host::{Failed, Host, Source};
+use nn_memhost::{Choice, Keep, MemHost, MemSource, Part, StopFault};
 
 // Writes VERSION the safe way: under another name, synced, renamed. These are calls 0 to 4.
 fn save(host: &mut MemHost, text: &[u8]) -> Result<(), Failed>

@@ -1,13 +1,12 @@
 // Calls on real folders, each test in a folder of its own.
-use crate::FileHost;
-use nn_base::{DirNo, FileName, NoMemory, Sub};
+use crate::acting::{DIR, act, host_of, made_root, sub_of};
+use nn_base::{FileName, Sub};
 use nn_host::{Failed, Host, ListFault};
 use std::alloc::Global;
-use std::path::AsPath;
 use std::process::Abort;
-use std::rt::{Env, Files};
+use std::rt::Files;
 use std::test::Fail;
-use std::{env, fs, process};
+use std::{fs, process};
 
 // A call on the one directory, and what it holds afterwards. INPROGRESS and EDITS stand for the names of segments.
 const CHANGES: [(&str, &str); 38] = [
@@ -304,37 +303,11 @@ fn a_read_gives_the_bytes_up_to_the_end(rt: HostRuntime) -> Result<(), Fail> {
     Ok(())
 }
 
-// A folder of its own for a test, by the test's name and the process.
-fn made_root<R: Files + Env + Alloc>(
-    rt: &R,
-    alloc: Global,
-    test: &str,
-    process: u32,
-) -> Result<String, Fail> {
-    let place = env::temp_dir(rt)?;
-    let place = place.path_text();
-    let root = format!(in alloc; "{place}/nn_files_{test}_{process}")?;
-    fs::create_dir(rt, root.as_str())?;
-    Ok(root)
-}
-
 fn write(rt: &impl Files, alloc: Global, root: &str, below: &str, text: &str) -> Result<(), Fail> {
     let path = format!(in alloc; "{root}/{below}")?;
     fs::write(rt, path.as_str(), text)?;
     Ok(())
 }
-
-fn host_of<R: Files + Print + Drop>(
-    rt: R,
-    alloc: Global,
-    root: &str,
-) -> Result<FileHost<R>, NoMemory> {
-    let mut paths = Vec::new(alloc);
-    paths.push(String::from_str(alloc, root)?)?;
-    FileHost::open(rt, alloc, paths)
-}
-
-const DIR: DirNo = DirNo(0);
 
 fn has_root<H: Host>(rt: &impl Abort, host: &mut H) -> Result<bool, Failed> {
     assert!(rt; 0 < host.count());
@@ -366,46 +339,6 @@ fn read_at<H: Host>(
 fn size<H: Host>(rt: &impl Abort, host: &mut H, sub: Sub, name: FileName) -> Result<u64, Failed> {
     assert!(rt; 0 < host.count());
     host.size(DIR, sub, name)
-}
-
-// Does what a line says: a verb, a subfolder and what the verb takes.
-fn act<H: Host>(rt: &impl Abort, host: &mut H, line: &str) -> Result<(), Failed> {
-    assert!(rt; 0 < host.count());
-    let mut words = line.split(' ');
-    let verb = words.next().unwrap_or("");
-    let sub = sub_of(words.next().unwrap_or(""));
-    let object = words.next().unwrap_or("");
-    let further = words.next().unwrap_or("");
-    match verb {
-        "make" => host.make_sub(DIR, sub),
-        "file" => host.make_file(DIR, sub, name_of(object)),
-        "append" => host.append(DIR, sub, name_of(object), further.as_bytes()),
-        "sync" => host.sync(DIR, sub, name_of(object)),
-        "rename" => host.rename_file(DIR, sub, name_of(object), name_of(further)),
-        "remove" => host.remove_file(DIR, sub, name_of(object)),
-        "move" => host.rename_sub(DIR, sub, sub_of(object)),
-        "drop" => host.remove_sub(DIR, sub),
-        "settle" => host.settle(DIR),
-        _ => Err(Failed),
-    }
-}
-
-fn sub_of(word: &str) -> Sub {
-    match word {
-        "current" => Sub::Current,
-        "previous" => Sub::Previous,
-        "previous.tmp" => Sub::PreviousTmp,
-        _ => Sub::RemovedTmp,
-    }
-}
-
-fn name_of(word: &str) -> FileName {
-    let text = match word {
-        "INPROGRESS" => "edits_inprogress_0000000000000000001",
-        "EDITS" => "edits_0000000000000000001-0000000000000000002",
-        _ => word,
-    };
-    FileName::parse(text.as_bytes()).unwrap_or(FileName::Version)
 }
 
 // The subfolders that are there, each with its files and their bytes.

@@ -1,8 +1,8 @@
 // Small files over a host in memory.
-use crate::{ReadAll, read_all, write_small};
 use nn_base::{DirNo, FileName, Sub};
 use nn_host::Host;
 use nn_memhost::MemHost;
+use nn_small::{ReadAll, read_all, write_small};
 use std::test::Fail;
 
 #[test]

@@ -1,0 +1,161 @@
+// Which changes and syncs each call on a real folder makes, in their order, by a runtime that writes them down.
+use crate::acting::{act, host_of, made_root};
+use crate::recorder::{Record, Recorder};
+use nn_host::Failed;
+use std::alloc::Global;
+use std::cell::RefCell;
+use std::process;
+use std::process::Abort;
+use std::rt::{Env, Files};
+use std::test::Fail;
+
+// The calls before, one of them each line, the call, and its changes and syncs. A name that was changed is followed by the
+// sync of the folder that holds it; `.` is the directory itself.
+const ROWS: [(&str, &str, &str); 24] = [
+    ("", "make current", "mkdir current, fsync ."),
+    ("make current", "make current", ""),
+    ("", "file current VERSION", ""),
+    (
+        "make current",
+        "file current VERSION",
+        "create current/VERSION, fsync current/VERSION, fsync current",
+    ),
+    (
+        "make current|file current VERSION|append current VERSION abc",
+        "file current VERSION",
+        "create current/VERSION, fsync current/VERSION, fsync current",
+    ),
+    ("make current", "append current VERSION abc", ""),
+    (
+        "make current|file current VERSION",
+        "append current VERSION abc",
+        "open current/VERSION, write current/VERSION",
+    ),
+    (
+        "make current|file current VERSION|append current VERSION abc",
+        "append current VERSION de",
+        "open current/VERSION, write current/VERSION",
+    ),
+    (
+        "make current|file current VERSION|append current VERSION abc",
+        "sync current VERSION",
+        "fdatasync current/VERSION",
+    ),
+    ("make current", "sync current VERSION", ""),
+    (
+        "make current|file current INPROGRESS",
+        "append current INPROGRESS one",
+        "open current/edits_inprogress_0000000000000000001, write current/edits_inprogress_0000000000000000001",
+    ),
+    // The segment in progress stays open for its appends and syncs.
+    (
+        "make current|file current INPROGRESS|append current INPROGRESS one",
+        "append current INPROGRESS two",
+        "write current/edits_inprogress_0000000000000000001",
+    ),
+    (
+        "make current|file current INPROGRESS|append current INPROGRESS one",
+        "sync current INPROGRESS",
+        "fdatasync current/edits_inprogress_0000000000000000001",
+    ),
+    (
+        "make current|file current INPROGRESS|append current INPROGRESS one",
+        "rename current INPROGRESS EDITS",
+        "rename current/edits_inprogress_0000000000000000001 to current/edits_0000000000000000001-0000000000000000002, fsync current",
+    ),
+    (
+        "make current|file current VERSION",
+        "rename current VERSION seen_txid",
+        "rename current/VERSION to current/seen_txid, fsync current",
+    ),
+    ("make current", "rename current VERSION seen_txid", ""),
+    (
+        "make current",
+        "move current previous",
+        "rename current to previous, fsync .",
+    ),
+    ("make current|make previous", "move current previous", ""),
+    ("make previous.tmp", "move current previous", ""),
+    (
+        "make current|file current VERSION",
+        "remove current VERSION",
+        "unlink current/VERSION, fsync current",
+    ),
+    ("make current", "remove current VERSION", ""),
+    (
+        "make current|file current VERSION",
+        "drop current",
+        "rmtree current, fsync .",
+    ),
+    ("", "drop current", ""),
+    (
+        "make previous|file previous VERSION|make current|file current seen_txid",
+        "settle",
+        "fsync current/seen_txid, fsync current, fsync previous/VERSION, fsync previous, fsync .",
+    ),
+];
+
+#[test]
+fn a_changed_name_is_synced_with_its_folder_before_the_call_returns(
+    rt: HostRuntime,
+) -> Result<(), Fail> {
+    let process = process::id(rt.process());
+    for (before, call, wanted) in ROWS {
+        let (calls, outcome) = recorded(&rt, rt.alloc(), process, (before, call), usize::MAX)?;
+        assert!(rt; outcome.is_ok(), "{call}");
+        assert_eq!(rt; calls.as_str(), wanted, "{call}");
+    }
+    Ok(())
+}
+
+#[test]
+fn a_change_or_sync_that_fails_fails_the_call_and_is_its_last(rt: HostRuntime) -> Result<(), Fail> {
+    let process = process::id(rt.process());
+    for (before, call, wanted) in ROWS {
+        let count = match wanted.is_empty() {
+            true => 0,
+            false => wanted.split(", ").count(),
+        };
+        for lasts in 0..count {
+            let (calls, outcome) = recorded(&rt, rt.alloc(), process, (before, call), lasts)?;
+            assert_eq!(rt; outcome, Err(Failed), "{call}");
+            assert_eq!(rt; calls.split(", ").count(), lasts + 1, "{call}");
+            assert!(rt; wanted.starts_with(calls.as_str()), "{call}");
+        }
+    }
+    Ok(())
+}
+
+// The changes and syncs of a call after those before it, in a folder of its own, and its answer. So many are done before one
+// fails.
+fn recorded<R: Files + Env + Alloc + Abort + Print>(
+    rt: &R,
+    alloc: Global,
+    process: u32,
+    row: (&str, &str),
+    lasts: usize,
+) -> Result<(String, Result<(), Failed>), Fail> {
+    let (before, call) = row;
+    let root = made_root(rt, alloc, "syncs", process)?;
+    let record = RefCell::new(Record::new(alloc, root.as_str())?);
+    let runtime = Recorder {
+        rt,
+        alloc,
+        record: &record,
+    };
+    let mut host = host_of(runtime, alloc, root.as_str())?;
+    for line in before.split('|') {
+        if !line.is_empty() {
+            act(rt, &mut host, line)?;
+        }
+    }
+    if let Ok(mut record) = record.try_borrow_mut() {
+        record.begin(lasts);
+    }
+    let outcome = act(rt, &mut host, call);
+    rt.remove_dir_all(alloc, root.as_str())?;
+    match record.try_borrow() {
+        Ok(record) => Ok((String::from_str(alloc, record.calls())?, outcome)),
+        Err(_) => Err(Fail::new("the record is in use")),
+    }
+}
