@@ -1,5 +1,6 @@
 -- What one call of a host does: to the counts for every host, and to the contents where the host tells them.
 use Rattle.std.specs.Prelude.{◌≡◌, ◌≢◌, ◌⊎◌, ◌+◌, ◌-◌, ◌^◌, max, min, ℕ, List, [], ◌∷◌, ◌++◌, take, Result, OnOk, OnErr}
+use Rattle.nn_base.specs.Limits.{most_piece}
 use Rattle.nn_host.specs.Disk.{Call, Broken, Leaves, disk_after, reads_after}
 use Rattle.nn_host.specs.Moments.{State, Event, On, Say, SameBut, disk_at, faults_at}
 
@@ -57,9 +58,9 @@ pub record Called {T E : Type 0} (told : Type 0) (i : ℕ) (call : Call) (old ne
   pub counted : IsCounted i old new result
   pub effect : told → Effect i call old new result
 
--- the most bytes that the output is handed at once
+-- the same as most_piece, until each proof cites that
 abbrev pub most_said : ℕ
-most_said = 65536
+most_said = most_piece
 
 -- the output took these bytes
 pub record Said (bytes : List ℕ) (old new : State) : Type 0 where

@@ -1,20 +1,22 @@
 // The trait over all directories and the output.
 ghost use Rattle.std.specs.Prelude.{◌≡◌, ◌<◌, ◌≤◌, ◌++◌, List, length, OnOk, IfOk, IsErrOf, is_some};
+ghost use Rattle.nn_base.specs.Limits.{most_piece};
 ghost use Rattle.nn_base.specs.declared.file_name.FileName.{FileName as Name};
 ghost use Rattle.nn_host.specs.declared.host.ListFault.TheVariants as list_fault;
 ghost use Rattle.nn_host.specs.Disk.{Look, MakeSub, MakeFile, Append, Sync, RenameFile, RenameSub, RemoveFile, RemoveSub, Settle};
 ghost use Rattle.nn_host.specs.Listing.{IsListing, AreNames, host_part, bytes_of, IsRead};
 ghost use Rattle.nn_host.specs.Moments.{State, IsLawful};
-ghost use Rattle.nn_host.specs.Calls.{Called, Spoke, most_said};
+ghost use Rattle.nn_host.specs.Calls.{Called, Spoke};
 
+use nn_base::limits::MOST_PIECE;
 use nn_base::{DirNo, FileName, Sub};
 
 /// A call of the host failed: the system refused it for another reason than an absent name.
 #[derive(Clone, Copy, Debug, PartialEq, Eq)]
 pub struct Failed;
 
-/// The most bytes that `Host::say` takes at once. A longer text goes out in several pieces.
-pub const MOST_SAID: usize = 65_536;
+/// The same as `MOST_PIECE`, until each caller cites that.
+pub const MOST_SAID: usize = MOST_PIECE;
 
 /// Why a folder wasn't listed.
 #[derive(Clone, Copy, Debug, PartialEq, Eq)]
@@ -144,9 +146,9 @@ pub trait Host {
         requires { i.0 < (state self.old).count }
         ensures { Called told i.0 Settle (state self.old) (state self.new) result };
 
-    /// Writes these bytes to the output, behind all that was said: at most `MOST_SAID` at once.
+    /// Writes these bytes to the output, behind all that was said: at most `MOST_PIECE` at once.
     fn say(&mut self, bytes: &[u8]) -> Result<(), Failed>
-        requires { length bytes.now ≤ most_said }
+        requires { length bytes.now ≤ most_piece }
         ensures { Spoke told bytes.now (state self.old) (state self.new) result };
 
     ghost lawful: { told → (host : Self) → IsLawful (state host) };
