@@ -11,9 +11,9 @@ use Rattle.nn_host.specs.Disk.{Disk, Reads, MakeFile, Append, Sync, certain, fre
 use Rattle.nn_host.specs.Moments.{State, IsLawful, disk_at, faults_at}
 use Rattle.nn_host.specs.Calls.{Called, Done}
 use Rattle.nn_host.specs.Runs.{OnlyAt}
-use Rattle.nn_host.proofs.FilesLemmas.{there}
+use Rattle.nn_host.proofs.FilesLemmas.{there, again}
 use Rattle.nn_host.proofs.WorkLemmas.{work_once, work_more}
-use Rattle.nn_small.proofs.WriteLemmas.{made, filled, again}
+use Rattle.nn_small.proofs.WriteLemmas.{made, filled}
 use Rattle.nn_remake.specs.Publishing.{BesideFile, WasFilled, WasStaged}
 use Rattle.nn_remake.proofs.BesideLemmas.{file_refl, file_call}
 

@@ -1,6 +1,6 @@
 use Rattle.std.proofs.Common.{Bool}
 use Rattle.nn_host.proofs.RunsLemmas.{looked_then}
-use Rattle.nn_small.proofs.ReadLemmas.{still_then}
+use Rattle.nn_host.proofs.WorkLemmas.{still_then}
 use Rattle.nn_chain.proofs.ReadLemmas.{handed_on, looked_on, looked_still}
 use Rattle.nn_chain.proofs.image.read_image.Goals as goal
 
