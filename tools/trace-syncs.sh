@@ -50,7 +50,7 @@ awk '
     cat << 'END'
 # What is synced, and when
 
-A trace of the system calls of `nn_files` while its test of changes runs, made by `tools/trace-syncs.sh`. Paths go from the name directory on, and `.` is the directory itself; looks are left out.
+That each call makes just these changes and syncs, in this order, and that one of them that fails fails the call, is tested in the gate over a runtime that writes its calls down: `tests_host/src/syncs.rt` has the table. What stands here is a trace of the system's own calls while the test of changes runs, made by `tools/trace-syncs.sh`. Paths go from the name directory on, and `.` is the directory itself; looks are left out.
 
 - A name that is made, renamed or removed is followed by an `fsync` of the folder that holds it: of the subfolder for a file, of the directory for a subfolder.
 - A file that is made is itself synced too, since one that was emptied has to stay empty.
