@@ -2,6 +2,7 @@ pub mod DecimalLemmas
 pub mod DirSetLemmas
 pub mod FileTextLemmas
 pub mod FirstLemmas
+pub mod MarkLemmas
 pub mod NamesLemmas
 pub mod PaddedLemmas
 pub mod PathsLemmas
