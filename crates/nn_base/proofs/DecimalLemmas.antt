@@ -1,5 +1,5 @@
 -- Digits and the numbers that they write.
-use Rattle.std.proofs.Common.{◌≡◌, ℕ, zero, suc, ◌+◌, ◌*◌, ◌/◌, ◌%◌, ◌^◌, ◌<◌, ◌≤◌, Bool, true, false, Some, List, [], ◌∷◌, ◌++◌, length, take, drop, get_or, set, ◌-◌, refl, sym, ap, ◌∙◌, arith, rules, add-one, append_assoc, length-append, lit<, sub-one, ◌&&◌, leb-true, ltb-true, lt-ltb, le-leb, nat_lt}
+use Rattle.std.proofs.Common.{◌≡◌, ℕ, zero, suc, ◌+◌, ◌*◌, ◌/◌, ◌%◌, ◌^◌, ◌<◌, ◌≤◌, true, Some, List, [], ◌∷◌, ◌++◌, length, take, drop, get_or, set, ◌-◌, refl, sym, ap, ◌∙◌, arith, rules, add-one, append_assoc, length-append, lit<, sub-one, ◌&&◌, leb-true, ltb-true, lt-ltb, le-leb, nat_lt}
 use Rattle.std.specs.List.{list_all}
 use Rattle.std.specs.Char.{is_ascii_digit, digit_value}
 use Rattle.std.specs.Int.{IsInRange}
@@ -11,6 +11,7 @@ use Rattle.std.proofs.lemmas.List.Folds.{list_all-append}
 use Rattle.std.proofs.lemmas.Bool.Decides.{nat_tests}
 use Rattle.std.proofs.Math.Nat.{pow-le-pow_right, pow-suc, div-lt_iff_lt-mul}
 use Rattle.std.proofs.lemmas.Grind.{common_steps}
+use Rattle.std.proofs.lemmas.Bool.{and_parts}
 use Rattle.nn_base.specs.Decimal.{last_digits, is_number, number_in}
 use Rattle.std.proofs.lemmas.Option.{cond_some}
 
@@ -46,10 +47,6 @@ pub written_all : (k n : ℕ) (ds whole : List ℕ) → k ≤ 0 → last_digits 
 unfolding last_digits
 written_all zero n ds whole none so_far = so_far
 written_all (suc k) n ds whole none so_far = absurd (omega arith)
-
-pub and_parts : (a b : Bool) → (a && b) ≡ true → (a ≡ true) × (b ≡ true)
-and_parts true b h = (refl, h)
-and_parts false b h = cc
 
 -- a byte from 48 to 57 is worth what it is above 48
 digit_value_is : (c : ℕ) → IsInRange 48 57 c → digit_value c ≡ c - 48

@@ -1,12 +1,12 @@
 -- A set of directories is its members; one that is made in order, and how many it has.
-use Rattle.std.proofs.Common.{◌≡◌, ◌≢◌, inl, inr, get_or, ℕ, zero, suc, ◌+◌, ◌<◌, ◌≤◌, ◌==◌, ◌&&◌, ◌||◌, not, nat_lt, Bool, true, false, List, [], ◌∷◌, length, refl, sym, ◌∙◌, ap, arith, lt-ltb, le-ltb}
+use Rattle.std.proofs.Common.{◌≡◌, ◌≢◌, inl, inr, get_or, ℕ, suc, ◌+◌, ◌<◌, ◌≤◌, ◌==◌, ◌&&◌, ◌||◌, not, nat_lt, Bool, true, false, List, [], ◌∷◌, length, refl, sym, ◌∙◌, ap, arith, lt-ltb, le-ltb}
 use mathlib.Core.Bool.{beq}
 use Rattle.std.specs.List.{list_any}
 use Rattle.std.specs.Cmp.Lexicographic.{pointwise}
-use Rattle.std.proofs.lemmas.Bool.{cases_lt, not-false}
+use Rattle.std.proofs.lemmas.Bool.{cases_lt, not-false, and_parts}
 use Rattle.std.proofs.lemmas.Bool.Decides.{eqb_tells}
 use Rattle.std.proofs.lemmas.List.{get_or_past}
-use Rattle.nn_base.proofs.DecimalLemmas.{and_parts}
+use Rattle.nn_base.proofs.PlainLemmas.{and_false}
 use Rattle.nn_base.specs.DirSets.{Members, values, from_values, values-from_values, has, count_true, count_of}
 
 pub same_members : (a b : Members) → ((j : ℕ) → has a j ≡ has b j) → a ≡ b
@@ -44,10 +44,6 @@ one_more test {set} {more} {k} before passes added = λ j. elim (eqb_tells j k) 
       added j ∙ ap (λ b. b || has set j) same.0 ∙ sym (λ i. here i && there i)
   | inr other ↦ added j ∙ ap (λ b. b || has set j) other.0 ∙ before j ∙ sym (ap (λ b. b && test j) (below_next j k other.1))
 ]
-
-pub and_false : (a b : Bool) → b ≡ false → (a && b) ≡ false
-and_false true b e = e
-and_false false b e = refl
 
 pub one_past : (test : ℕ → Bool) {set : Members} {k : ℕ} → IsUpTo set k test → test k ≡ false → IsUpTo set (k + 1) test
 one_past test {set} {k} before fails = λ j. elim (eqb_tells j k) [

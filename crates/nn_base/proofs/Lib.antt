@@ -8,3 +8,4 @@ pub mod PaddedLemmas
 pub mod PathsLemmas
 pub mod PathTextLemmas
 pub mod PathReadingLemmas
+pub mod PlainLemmas

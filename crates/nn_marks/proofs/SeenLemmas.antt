@@ -8,7 +8,8 @@ use Rattle.std.proofs.lemmas.List.{append_cancel_right, take_more_set, take_at, 
 use Rattle.std.proofs.lemmas.List.Folds.{list_all-append}
 use Rattle.std.proofs.lemmas.Fmt.{digits_decimal, digits_value-decimal, length-decimal-le, decimal_nonempty}
 use Rattle.nn_base.specs.Decimal.{number_in}
-use Rattle.nn_base.proofs.DecimalLemmas.{numerals, and_parts, writes_from_number_in, number_in_writes}
+use Rattle.std.proofs.lemmas.Bool.{and_parts}
+use Rattle.nn_base.proofs.DecimalLemmas.{numerals, writes_from_number_in, number_in_writes}
 use Rattle.nn_marks.specs.Seen.{IsSeenText, seen_text_of}
 
 pub number_in-decimal : (n : ℕ) → n < 2 ^ 63 → number_in (decimal n) ≡ Some n

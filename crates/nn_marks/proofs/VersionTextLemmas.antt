@@ -14,7 +14,8 @@ use Rattle.std.proofs.lemmas.Bool.Decides.{nat_tests}
 use Rattle.std.proofs.lemmas.Int.{ints}
 use Rattle.nn_base.specs.Decimal.{is_number}
 use Rattle.nn_base.specs.Words.{is_word, is_word_byte}
-use Rattle.nn_base.proofs.DecimalLemmas.{numerals, and_parts}
+use Rattle.std.proofs.lemmas.Bool.{and_parts}
+use Rattle.nn_base.proofs.DecimalLemmas.{numerals}
 use Rattle.nn_marks.specs.declared.key.Key.{Key}
 use Rattle.nn_marks.specs.declared.key.Key.TheVariants.{NamespaceId, ClusterId, CTime, StorageType, BlockpoolId, LayoutVersion}
 use Rattle.nn_marks.specs.declared.fault.VersionFault.{VersionFault}

@@ -3,14 +3,13 @@ use Rattle.std.proofs.Common.{◌≡◌, ℕ, ◌+◌, ◌*◌, ◌/◌, ◌%◌
 use Rattle.std.specs.Prelude.{All, map, nat_le, option_map}
 use Rattle.std.specs.List.{slice_split, onto_first, list_all}
 use Rattle.std.specs.Char.{digit_char}
-use Rattle.std.proofs.lemmas.Bool.{cases_Bool, not-true}
+use Rattle.std.proofs.lemmas.Bool.{cases_Bool, not-true, and_parts}
 use Rattle.std.proofs.lemmas.Bool.Decides.{nat_tests}
 use Rattle.std.proofs.lemmas.List.Elements.{All-head, All-tail}
 use Rattle.std.proofs.lemmas.List.Folds.{list_all-append}
 use Rattle.std.proofs.lemmas.List.Splits.{length-slice_split}
 use Rattle.nn_base.specs.Paths.{Bytes}
 use Rattle.nn_base.specs.Words.{is_word_byte}
-use Rattle.nn_base.proofs.DecimalLemmas.{and_parts}
 use Rattle.nn_script.specs.Words.{hex_value, byte_of, unescaped_part, unescaped_parts, joined, unescaped}
 use Rattle.nn_script.specs.Spelling.{is_plain, escaped_byte, escaped}
 

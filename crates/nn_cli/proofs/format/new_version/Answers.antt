@@ -7,7 +7,8 @@ use Rattle.std.specs.Fmt.{decimal}
 use Rattle.std.proofs.lemmas.Fmt.{digits_decimal, length-decimal-le}
 use Rattle.std.proofs.lemmas.Bool.Decides.{nat_tests}
 use Rattle.nn_base.specs.Words.{is_word, is_word_byte}
-use Rattle.nn_base.proofs.DecimalLemmas.{numerals, and_parts}
+use Rattle.std.proofs.lemmas.Bool.{and_parts}
+use Rattle.nn_base.proofs.DecimalLemmas.{numerals}
 use Rattle.nn_cli.proofs.format.new_version.Goals as goal
 
 digit_is_word_byte : (byte : ℕ) → is_ascii_digit byte ≡ true → is_word_byte byte ≡ true

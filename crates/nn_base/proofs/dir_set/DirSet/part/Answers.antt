@@ -1,7 +1,8 @@
-use Rattle.std.proofs.Common.{◌≡◌, ℕ, ◌+◌, ◌&&◌, Bool, true, false, sym, ap, subst, ◌∙◌, arith}
+use Rattle.std.proofs.Common.{◌≡◌, ℕ, ◌+◌, ◌&&◌, Bool, true, sym, ap, subst, ◌∙◌, arith}
 use mathlib.Core.Bool.{beq}
 use Rattle.nn_base.specs.DirSets.{Members, has}
-use Rattle.nn_base.proofs.DirSetLemmas.{IsUpTo, and_false, none_past, none_yet, one_more, one_past, all_told}
+use Rattle.nn_base.proofs.PlainLemmas.{and_false}
+use Rattle.nn_base.proofs.DirSetLemmas.{IsUpTo, none_past, none_yet, one_more, one_past, all_told}
 use Rattle.nn_base.proofs.dir_set.DirSet.part.Goals as goal
 use Rattle.nn_base.proofs.dir_set.DirSet.part.Goals.{then-has+then-has-wanted, else-has, else-has-via-then-has+else-has-wanted, else-has-via-else-has}
 

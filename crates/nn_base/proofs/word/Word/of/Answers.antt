@@ -1,7 +1,7 @@
 -- The word lies at the front of the array.
 use Rattle.std.proofs.Common.{◌≡◌, true, IsTrue, sym, subst, leb-true}
 use Rattle.nn_base.specs.Words.{is_word}
-use Rattle.nn_base.proofs.DecimalLemmas.{and_parts}
+use Rattle.std.proofs.lemmas.Bool.{and_parts}
 use Rattle.nn_base.proofs.PaddedLemmas.{copied, text_of_copied}
 use Rattle.nn_base.proofs.word.Word.of.Goals as goal
 
