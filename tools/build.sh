@@ -1,55 +1,58 @@
 #!/bin/sh
-# Proves the crates that the program stands on, from the lowest up and as many side by side as there are processors (or
-# JOBS, where it is set), then the program, and builds it: crates/nn_cli/out/nn_cli.
+# Proves a library and all that it stands on, each crate once those below it are proved and as many side by side as there are
+# processors; without a name those of the program, which is then built: crates/nn_cli/out/nn_cli.
+# Usage: build.sh [-n] [LIBRARY]      -n: says only in which order, and which crates each waits for
+# JOBS, where it is set, is how many crates are proved at a time.
 set -eu
-cd "$(dirname "$0")/../crates/nn_cli"
-jobs=${JOBS:-$(nproc)}
-log=$(mktemp)
-trap 'rm -f "$log"' EXIT
-begun=$(date +%s)
-
-said() {
-    printf '%3d min  %s\n' $((($(date +%s) - begun + 30) / 60)) "$1"
-}
-
-echo "Proves the program's crates, $jobs side by side. Where nothing was proved before, this takes about 18 minutes on four"
-echo 'processors. Each line says which crate is done, and after how many minutes.'
-
-# One `rt` works on all of them: two would wait for each other at each crate that both stand on. Once a crate is done it says
-# `== NAME` and what the prover said, of which the last line begins with `logic=proved`. Of a crate that was proved before, it
-# says no more than a line of its own. `== summary` comes last, and how many crates passed.
-rt all check --jobs "$jobs" 2>&1 | tee "$log" | {
-    crate=
-    end=
-    while IFS= read -r line; do
-        case $line in
-            '== '*)
-                [ -z "$crate" ] || said "$crate$end"
-                crate=${line#== }
-                end=
-                ;;
-            'logic=proved '*)
-                [ -z "$crate" ] || said "$crate"
-                crate=
-                ;;
-            'rt: '*) ;;
-            *) end=' is not proved' ;;
-        esac
-    done
-}
-if ! grep -q '^\([0-9]*\) of \1 crates ok$' "$log"; then
-    awk '
-        NR == FNR { if (/^== summary/) began = 1; if (/: failed \(/) { sub(/:.*/, ""); failed[$0] } next }
-        /^== / { shown = $2 in failed }
-        shown || !began
-    ' "$log" "$log" >&2
-    tail -n 3 "$log" >&2
-    echo 'The program was not built: what stands above is not proved.' >&2
-    exit 1
+cd "$(dirname "$0")/.."
+says=
+if [ "${1:-}" = -n ]; then
+    says=-n
+    shift
 fi
+crate=${1:-nn_cli}
+JOBS=${JOBS:-$(nproc)}
+BEGUN=$(date +%s)
+# Beside the repository, so that what is built there can be linked into it.
+PLACE=$(mktemp -d ../build.XXXXXX 2> /dev/null || mktemp -d)
+export JOBS BEGUN PLACE
+unset MAKEFLAGS MFLAGS
+trap 'rm -rf "$PLACE"' EXIT
+trap 'exit 1' INT TERM
+mkdir "$PLACE/running"
 
-rt run -- state . > /dev/null 2> "$log" || {
-    cat "$log" >&2
+# crates.txt as rules of make: a crate waits for all libraries of the repository below it.
+sed 's/#.*//' crates.txt | awk '
+    function add(name,   i, count, deps) {
+        count = split(uses[name], deps, " ")
+        for (i = 1; i <= count; i++)
+            if (deps[i] in uses && !index(below, " " deps[i] " ")) {
+                add(deps[i])
+                below = below deps[i] " "
+            }
+    }
+    /:/ {
+        name = $1
+        sub(/:.*/, "", name)
+        sub(/^[^:]*:/, "")
+        uses[name] = $0
+    }
+    END {
+        for (name in uses) {
+            below = " "
+            add(name)
+            printf ".PHONY: %s\n%s:%s\n\t@sh tools/prove.sh $@ $^\n", name, name, below
+        }
+    }
+' > "$PLACE/order"
+
+if [ -n "$says" ]; then
+    make -s -n -f "$PLACE/order" "$crate" | sed 's/^sh tools\/prove.sh //'
+    exit
+fi
+echo "Proves what $crate stands on, $JOBS crates at a time, and then $crate. The whole program takes about 18 minutes on four"
+echo 'processors, and less where some of it was proved here before. Each line says which crate is done, and when.'
+make -s -j "$JOBS" -f "$PLACE/order" "$crate" || {
+    echo "$crate was not built, since not all is proved: see above." >&2
     exit 1
 }
-said 'the program is built'
