@@ -4,7 +4,7 @@
 #![tactic(auto)]
 
 ghost use Rattle.std.specs.Prelude.{◌≡◌, ◌≤◌, ◌^◌, true, [], IfSome};
-ghost use Rattle.nn_image.specs.Imaged.{IsImaged};
+ghost use Rattle.nn_tree.specs.Imaged.{IsImaged};
 
 use nn_base::{NoMemory, Path};
 use nn_image::{Loaded, load, save};

@@ -13,7 +13,7 @@ use Rattle.nn_tree.specs.Namespace.{Namespace, Nodes, IsNamespace}
 use Rattle.nn_tree.proofs.BelowLemmas.{first_is_top}
 use Rattle.nn_message.specs.Messages.{Content, DirEntry}
 use Rattle.nn_image.specs.Image.{string_table, inode_of, child_ids, dir_entries_of, content_with, content_of}
-use Rattle.nn_image.specs.Imaged.{IsImaged, AreGiven}
+use Rattle.nn_tree.specs.Imaged.{IsImaged, AreGiven}
 use Rattle.nn_image.specs.Assembly.{Partial, table_of, waiting, is_table, all_blocks, are_all_given, is_whole, namespace_of, finished, add_inodes, add_all, assemble}
 use Rattle.nn_image.proofs.CollectLemmas.{all_entries}
 use Rattle.nn_image.proofs.ModestLemmas.{length-numbered}

@@ -14,14 +14,14 @@ use Rattle.nn_tree.specs.Spots.{last_name}
 use Rattle.nn_tree.proofs.LinksLemmas.{some_of}
 use Rattle.nn_message.specs.Messages.{Inode, IsInode, DirEntry}
 use Rattle.nn_image.specs.Image.{labels, string_table, attributes_of, inode_of, child_ids}
-use Rattle.nn_image.specs.Imaged.{IsImaged}
+use Rattle.nn_tree.specs.Imaged.{IsImaged}
 use Rattle.nn_image.specs.Assembly.{Owned, node_of, Partial, nothing_put, Place, Listing, waiting, use_names, placed, listing, with_node, add_inode, add_inodes, add_root}
 use Rattle.nn_image.proofs.LaterLemmas.{comes_before}
 use Rattle.nn_image.proofs.FrontLemmas.{next_there, one_of, distinct_behind}
 use Rattle.nn_image.proofs.ListedLemmas.{listed}
 use Rattle.nn_image.proofs.PlacedLemmas.{child_place, top_place, IsPlaced, placed_back, HasRoom, Adds, adds_back, Starts, starts_back}
 use Rattle.nn_image.proofs.EntriesLemmas.{Lists, lists, ListsRoot, lists_first}
-use Rattle.nn_image.proofs.EmptyLemmas.{no_entries}
+use Rattle.nn_tree.proofs.EmptyLemmas.{no_entries}
 use Rattle.nn_image.proofs.NewNodeLemmas.{root_path}
 use Rattle.nn_image.proofs.PartialLemmas.{root_before}
 use Rattle.nn_image.proofs.OwnedLemmas.{none_read, owns_back}

@@ -13,7 +13,8 @@ use Rattle.nn_tree.specs.Namespace.{Namespace, Nodes}
 use Rattle.nn_tree.specs.Spots.{last_name}
 use Rattle.nn_message.specs.Messages.{IsLong, IsLabel, IsNamespaceId, IsText, IsInode, IsDirEntry, IsContent}
 use Rattle.nn_image.specs.Image.{labels, string_table, numbered_from, attributes_of, inode_of, is_child, children, child_ids, entry_of, dir_entries_of, content_with, content_of}
-use Rattle.nn_image.specs.Imaged.{IsImaged, AreLabelled}
+use Rattle.nn_tree.specs.Imaged.{IsImaged}
+use Rattle.nn_image.specs.Imaged.{AreLabelled}
 use Rattle.nn_image.proofs.ListsLemmas.{all_flat_map}
 use Rattle.nn_image.proofs.CollectLemmas.{short_more, few_uses, few_nodes, entry_there}
 

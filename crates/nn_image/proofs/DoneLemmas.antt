@@ -12,7 +12,7 @@ use Rattle.nn_tree.specs.Spots.{last_name}
 use Rattle.nn_message.specs.Messages.{Inode, IsInode, DirEntry}
 use Rattle.nn_image.specs.Assembly.{Partial, Place, node_of, with_node, add_inode, add_inodes, add_root, add_all}
 use Rattle.nn_image.proofs.LaterLemmas.{entries_behind}
-use Rattle.nn_image.proofs.EmptyLemmas.{no_entries}
+use Rattle.nn_tree.proofs.EmptyLemmas.{no_entries}
 use Rattle.nn_image.proofs.PlacedLemmas.{adds, starts}
 use Rattle.nn_image.proofs.PartialLemmas.{IsPartial, begins, goes_on, root_before}
 use Rattle.nn_image.proofs.EntriesLemmas.{lists, AreListed, lists_on, lists_root}

@@ -1,7 +1,7 @@
 -- The image of the empty namespace, byte by byte.
 use Rattle.std.proofs.Common.{◌≡◌, ◌∙◌, [], ◌∷◌, refl, ap}
 use Rattle.nn_base.specs.Paths.{Bytes}
-use Rattle.nn_image.proofs.EmptyLemmas.{root_alone}
+use Rattle.nn_tree.proofs.EmptyLemmas.{root_alone}
 use Rattle.nn_wire.specs.Varint.{spelled_within, varint}
 use Rattle.nn_tree.specs.Namespace.{empty_namespace, root_node, hdfs, supergroup}
 use Rattle.nn_message.specs.Messages.{Content}

@@ -10,7 +10,7 @@ use Rattle.nn_message.specs.Messages.{Inode, IsInode, DirEntry}
 use Rattle.nn_image.specs.Image.{entry_of}
 use Rattle.nn_image.specs.Assembly.{Owned, node_of, Level, Partial, Place, waiting, listing, with_node}
 use Rattle.nn_image.proofs.LaterLemmas.{AreBefore, same_before, entries_behind}
-use Rattle.nn_image.proofs.EmptyLemmas.{no_entries}
+use Rattle.nn_tree.proofs.EmptyLemmas.{no_entries}
 use Rattle.nn_image.proofs.LevelsLemmas.{ArePlaces, waiting_places}
 use Rattle.nn_image.proofs.ListedLemmas.{listed, others_listed, own_listed, root_listed, file_none, listing_whole}
 use Rattle.nn_image.proofs.PlacedLemmas.{child_place, IsPlaced, HasRoom, Adds, Starts}

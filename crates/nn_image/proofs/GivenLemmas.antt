@@ -13,7 +13,7 @@ use Rattle.std.proofs.lemmas.List.{length-map}
 use Rattle.nn_base.specs.Paths.{Bytes}
 use Rattle.nn_message.specs.Messages.{Text, Content}
 use Rattle.nn_image.specs.Image.{numbered_from}
-use Rattle.nn_image.specs.Imaged.{AreGiven}
+use Rattle.nn_tree.specs.Imaged.{AreGiven}
 use Rattle.nn_image.proofs.UsedLemmas.{itself}
 use Rattle.nn_image.specs.Assembly.{are_distinct, are_numbered, table_of, is_table, are_given}
 

@@ -1,4 +1,3 @@
-pub mod EmptyLemmas
 pub mod EmptyImage
 pub mod ListsLemmas
 pub mod StageLemmas

@@ -21,7 +21,7 @@ use Rattle.nn_message.specs.Messages.{IsLabel, Text, Inode}
 use Rattle.nn_message.specs.Spelling.{optional, ns_info, strings, string, inodes, block, access, blocks_field, open_field, file, directory, kind_number, kind_field, inode, dir_entry, delimited}
 use Rattle.nn_message.specs.Frame.{Sections, sections_of}
 use Rattle.nn_image.specs.Image.{numbered_from, inode_of, child_ids, entry_of, dir_entries_of, content_with}
-use Rattle.nn_image.specs.Imaged.{IsImaged}
+use Rattle.nn_tree.specs.Imaged.{IsImaged}
 use Rattle.nn_image.specs.Saving.{Target, whole, entry_text, AreModest}
 use Rattle.nn_image.proofs.ListsLemmas.{flat_map-map, flat_map-flat_map}
 use Rattle.nn_message.proofs.SummaryLemmas.{varint_few, varint_field_few, bytes_field_few, delimited_few}

@@ -17,7 +17,7 @@ use Rattle.nn_tree.proofs.SlotsLemmas.{total-empty}
 use Rattle.nn_message.specs.Messages.{Inode, IsInode, DirEntry}
 use Rattle.nn_image.specs.Assembly.{Owned, node_of, Level, Partial, Place, waiting, listing, opened, with_node}
 use Rattle.nn_image.proofs.LaterLemmas.{AreBefore, none_before, before_more, before_later, free_behind, entries_behind}
-use Rattle.nn_image.proofs.EmptyLemmas.{no_entries}
+use Rattle.nn_tree.proofs.EmptyLemmas.{no_entries}
 use Rattle.nn_image.proofs.LevelsLemmas.{AreOpen, waiting_open, child_behind, child_open, directory_open, none_open, top_open, dir_stays, ArePlaces, none_places, waiting_places, first_place, more_places, places_stay}
 use Rattle.nn_image.proofs.NewNodeLemmas.{each_path, each_node, at_itself, child_formed, child_path, root_formed, root_path}
 use Rattle.nn_image.proofs.PlacedLemmas.{child_place, IsPlaced, HasRoom, Adds, Starts}

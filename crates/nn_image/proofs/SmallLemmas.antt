@@ -6,7 +6,8 @@ use Rattle.nn_tree.specs.Namespace.{Namespace}
 use Rattle.nn_message.specs.Spelling.{delimited}
 use Rattle.nn_message.specs.Frame.{magic, Sections, sections_of, body, summary_message, summary_of, lengths_of, end, framed}
 use Rattle.nn_image.specs.Image.{string_table, content_with, content_of, image_of}
-use Rattle.nn_image.specs.Imaged.{IsImaged, AreLabelled, IsImage}
+use Rattle.nn_tree.specs.Imaged.{IsImaged}
+use Rattle.nn_image.specs.Imaged.{AreLabelled, IsImage}
 use Rattle.nn_image.specs.Faults.{IsSmall}
 use Rattle.nn_message.proofs.SummaryLemmas.{summary_few}
 use Rattle.nn_image.proofs.CollectLemmas.{few_nodes}

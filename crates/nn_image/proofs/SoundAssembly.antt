@@ -14,7 +14,8 @@ use Rattle.nn_tree.specs.Nodes.{blocks_of}
 use Rattle.nn_tree.specs.Namespace.{Namespace}
 use Rattle.nn_message.specs.Messages.{Content, IsContent, Inode, IsLabel}
 use Rattle.nn_image.specs.Image.{string_table, inode_of, child_ids, entry_of, dir_entries_of, numbered_from, content_with, content_of}
-use Rattle.nn_image.specs.Imaged.{IsImaged, AreLabelled, AreGiven, blocks_in}
+use Rattle.nn_tree.specs.Imaged.{IsImaged, AreGiven, blocks_of_files}
+use Rattle.nn_image.specs.Imaged.{AreLabelled}
 use Rattle.nn_image.specs.Assembly.{Partial, table_of, waiting, is_table, are_given, all_blocks, are_all_given, is_whole, namespace_of, finished, add_all, assemble}
 use Rattle.nn_image.proofs.ListedLemmas.{listed, all_listed}
 use Rattle.nn_image.proofs.OwnedLemmas.{labelled}
@@ -119,7 +120,7 @@ module _ (content : Content) (in_range : IsContent content) (table : IsTable con
   ids_are : map (λ (i : Inode). i.id) content.inodes ≡ map (λ (e : Names × Node). e.1.id) (entries h.nodes)
   ids_are = ap (map (λ (i : Inode). i.id)) (sym done.read.messages) ∙ same_ids (table_of content) (entries h.nodes)
 
-  blocks_are : all_blocks content ≡ blocks_in h.nodes
+  blocks_are : all_blocks content ≡ blocks_of_files h.nodes
   blocks_are = ap (flat_map (λ (i : Inode). blocks_of i.kind)) (sym done.read.messages) ∙ same_blocks (table_of content) (entries h.nodes)
 
   is_assembled : IsAssembled content (namespace_of content h.nodes)

@@ -17,7 +17,7 @@ use Rattle.nn_message.specs.declared.summary.Lengths.{Lengths}
 use Rattle.nn_message.specs.Spelling.{ns_info, strings, string, inodes, inode, dir_entry, delimited}
 use Rattle.nn_message.specs.Frame.{magic, Sections, sections_of, body, summary_message, summary_of, end}
 use Rattle.nn_image.specs.Image.{string_table, numbered_from, inode_of, is_child, children, child_ids, entry_of, content_with}
-use Rattle.nn_image.specs.Imaged.{IsImaged}
+use Rattle.nn_tree.specs.Imaged.{IsImaged}
 
 -- what is saved: the namespace, the spots of its tree and their paths, the string table, and what the image says of itself
 pub record Target : Type 0 where

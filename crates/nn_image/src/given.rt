@@ -1,7 +1,7 @@
 // Whether ids are among those that were given, and none was given twice.
 ghost use Rattle.std.specs.Prelude.{◌↔◌, ◌≤◌, IsTrue, All};
 ghost use Rattle.std.specs.List.Sorted.{IsStrictlyIncreasing};
-ghost use Rattle.nn_image.specs.Imaged.{AreGiven};
+ghost use Rattle.nn_tree.specs.Imaged.{AreGiven};
 
 /// Whether each id is below the next.
 fn rise(ids: &[u64]) -> bool

@@ -2,7 +2,8 @@
 ghost use Rattle.std.specs.Prelude.{◌≡◌, ◌≢◌, ◌<◌, ◌≤◌, ◌^◌, ◌++◌, [], true, false, length, drop, min, nat_lt, All, unsigned_abs, IfOk, OnOk, vec_len};
 ghost use Rattle.nn_tree.specs.Spots.{IsSound};
 ghost use Rattle.nn_image.specs.declared.task.Stage.TheVariants.{Done};
-ghost use Rattle.nn_image.specs.Imaged.{IsImaged, AreLabelled};
+ghost use Rattle.nn_tree.specs.Imaged.{IsImaged};
+ghost use Rattle.nn_image.specs.Imaged.{AreLabelled};
 ghost use Rattle.nn_image.specs.Faults.{IsSmall};
 ghost use Rattle.nn_image.specs.Image.{image_of, string_table};
 ghost use Rattle.nn_message.specs.Messages.{IsLabel};

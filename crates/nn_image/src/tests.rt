@@ -58,7 +58,7 @@ const PACKED: &[u8] = b"HDFSIMG1\
 \x1a\x04gzip\x22\x0d\x0a\x07NS_INFO\x10\x0e\x18\x08\x22\x12\x0a\x0cSTRING_TABLE\x10\x1b\x18\x16\x22\x0b\x0a\x05INODE\x10\x1b\x18\x31\x22\x0f\x0a\x09INODE_DIR\x10\x00\x18\x4c\x00\x00\x00\x4d";
 
 #[test]
-#[tactic(auto, using(crate::proofs::EmptyLemmas::imaged_empty))]
+#[tactic(auto, using(nn_tree::proofs::EmptyLemmas::imaged_empty))]
 fn the_empty_namespace_has_the_image_of_151_bytes(rt: HostRuntime) -> Result<(), Fail> {
     let alloc = rt.alloc();
     let tree = PlainTree::new(alloc)?;
@@ -73,7 +73,7 @@ fn the_empty_namespace_has_the_image_of_151_bytes(rt: HostRuntime) -> Result<(),
 
 // A namespaceID of two bytes makes NS_INFO and the file one byte longer, and all behind it moves by one.
 #[test]
-#[tactic(auto, using(crate::proofs::EmptyLemmas::imaged_empty))]
+#[tactic(auto, using(nn_tree::proofs::EmptyLemmas::imaged_empty))]
 fn a_longer_number_moves_all_behind_it(rt: HostRuntime) -> Result<(), Fail> {
     let alloc = rt.alloc();
     let tree = PlainTree::new(alloc)?;

@@ -5,7 +5,7 @@ ghost use Rattle.nn_base.specs.declared.file_name.FileName.TheVariants.{Image};
 ghost use Rattle.nn_host.specs.Moments.{disk_at};
 ghost use Rattle.nn_host.specs.Calls.{IsCounted};
 ghost use Rattle.nn_host.specs.Runs.{OnlyAt};
-ghost use Rattle.nn_image.specs.Imaged.{IsImaged};
+ghost use Rattle.nn_tree.specs.Imaged.{IsImaged};
 ghost use Rattle.nn_chain.specs.Folder.{folder_at};
 ghost use Rattle.nn_chain.specs.Images.{HasIntact, IsUnsound};
 ghost use Rattle.nn_remake.specs.Counts.{IsCountedBy};

@@ -8,7 +8,7 @@ ghost use Rattle.nn_host.specs.Calls.{IsCounted};
 ghost use Rattle.nn_host.specs.Runs.{OnlyAt};
 ghost use Rattle.nn_marks.specs.Digest.{md5_text_of};
 ghost use Rattle.nn_small.specs.Small.{OldOrNew, Written};
-ghost use Rattle.nn_image.specs.Imaged.{IsImaged};
+ghost use Rattle.nn_tree.specs.Imaged.{IsImaged};
 ghost use Rattle.nn_image.specs.Saving.{Saves, left};
 ghost use Rattle.nn_remake.specs.Counts.{IsCountedBy};
 ghost use Rattle.nn_remake.specs.Publishing.{BesideFile, IsImageUnder, WasFilled, WasStaged, image_under};

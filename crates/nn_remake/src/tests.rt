@@ -39,7 +39,7 @@ const KEEPS: [Keep; 4] = [Keep::Synced, Keep::Half, Keep::All, Keep::Torn];
 const PARTS: [Part; 3] = [Part::Nothing, Part::Half, Part::All];
 
 // Publishes the empty namespace at the id 5 in directory 0.
-#[tactic(auto, using(nn_image::proofs::EmptyLemmas::imaged_empty))]
+#[tactic(auto, using(nn_tree::proofs::EmptyLemmas::imaged_empty))]
 fn publish_5<H: Host>(alloc: Global, host: &mut H) -> Result<(), MakeFault> {
     if host.count() == 0 {
         return Err(MakeFault::Memory);
@@ -67,7 +67,7 @@ fn with_old_image(alloc: Global, fails: Vec<(u64, Part)>) -> Result<MemHost, Fai
 }
 
 // Makes directory 0 of a new host at the id 0. The calls of the host fail as the list says.
-#[tactic(auto, using(nn_image::proofs::EmptyLemmas::imaged_empty))]
+#[tactic(auto, using(nn_tree::proofs::EmptyLemmas::imaged_empty))]
 fn make_0(
     alloc: Global,
     fails: Vec<(u64, Part)>,

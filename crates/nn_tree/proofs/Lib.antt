@@ -26,3 +26,8 @@ pub mod OrderLemmas
 pub mod NextLemmas
 pub mod SortedLemmas
 pub mod BelowLemmas
+pub mod EmptyLemmas
+pub mod CountedLemmas
+pub mod NumbersLemmas
+pub mod FormedLemmas
+pub mod ImagedLemmas

@@ -36,7 +36,7 @@ cond_le : (b : Bool) (n : ℕ) → cond b n 0 ≤ n
 cond_le true n = omega arith
 cond_le false n = omega arith
 
-kept_le : (f : Names → Node → ℕ) (m : Nodes) (p : Names → Bool) → total f (retain_keys m p) ≤ total f m
+pub kept_le : (f : Names → Node → ℕ) (m : Nodes) (p : Names → Bool) → total f (retain_keys m p) ≤ total f m
 kept_le f m p =
     let e = total-retain_keys path_cmp paths_total paths_exact f m p in
     let l = sum_by-le (λ (e : Names × Node). cond (p e.0) (f e.0 e.1) 0) (λ e. f e.0 e.1) (λ e. cond_le (p e.0) (f e.0 e.1)) (entries m) in

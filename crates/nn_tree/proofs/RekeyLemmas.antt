@@ -46,22 +46,22 @@ module _ {K X : Type 0} {R : K → K → Ordering} (o : IsTotalOrder R) (same : 
   below_at k (d ∷ es) zero e h is = let p : d ≡ e = cc in subst (λ (e : K × X). T (is_lt (R k e.0))) p (first_so _ _ h)
   below_at k (d ∷ es) (suc i) e h is = below_at k es i e (second_so _ _ h) is
 
-  sorted_differ : (es : List (K × X)) → T (is_sorted R es) → Differ (map Some es)
+  pub sorted_differ : (es : List (K × X)) → T (is_sorted R es) → Differ (map Some es)
   sorted_differ [] h i j a b p q k = cc
   sorted_differ (e ∷ es) h zero zero a b p q k = refl
   sorted_differ (e ∷ es) h zero (suc j) a b p q k = let x : e ≡ a = cc in absurd (not_below o e.0 b.0 (ap (λ e. e.0) x ∙ k) (below_at e.0 es j b (first_so _ _ h) q))
   sorted_differ (e ∷ es) h (suc i) zero a b p q k = let x : e ≡ b = cc in absurd (not_below o e.0 a.0 (ap (λ e. e.0) x ∙ sym k) (below_at e.0 es i a (first_so _ _ h) p))
   sorted_differ (e ∷ es) h (suc i) (suc j) a b p q k = ap suc (sorted_differ es (second_so _ _ h) i j a b p q k)
 
-  of_entries : (es : List (K × X)) → from_entries {R = R} es ≡ of_slots (map Some es)
+  pub of_entries : (es : List (K × X)) → from_entries {R = R} es ≡ of_slots (map Some es)
   unfolding of_slots
   of_entries [] = refl
   of_entries (e ∷ es) = ap (λ m. insert m e.0 e.1) (of_entries es)
 
-  made_again : (m : FinMap R X) → from_entries (entries m) ≡ m
+  pub made_again : (m : FinMap R X) → from_entries (entries m) ≡ m
   made_again m = same_map o same _ _ (λ q. get-from_entries o (entries m) q ∙ sym (get-entries m q))
 
-  map_some : (f : K → K) (es : List (K × X)) → map Some (map (λ e. (f e.0, e.1)) es) ≡ map (rekey_slot f) (map Some es)
+  pub map_some : (f : K → K) (es : List (K × X)) → map Some (map (λ e. (f e.0, e.1)) es) ≡ map (rekey_slot f) (map Some es)
   map_some f [] = refl
   map_some f (e ∷ es) = ap (λ s. Some (f e.0, e.1) ∷ s) (map_some f es)
 

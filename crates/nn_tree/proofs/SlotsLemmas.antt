@@ -18,10 +18,10 @@ is_equal Equal h = refl
 is_equal Greater h = cc
 
 module _ {K : Type 0} {R : K → K → Ordering} (o : IsTotalOrder R) (same : IsAntisymmetric R) where
-  ties : (q k : K) → eq_by_cmp R q k ≡ true → q ≡ k
+  pub ties : (q k : K) → eq_by_cmp R q k ≡ true → q ≡ k
   ties q k h = same q k (is_equal _ h)
 
-itself : {K : Type 0} {R : K → K → Ordering} → IsTotalOrder R → (q : K) → eq_by_cmp R q q ≡ true
+pub itself : {K : Type 0} {R : K → K → Ordering} → IsTotalOrder R → (q : K) → eq_by_cmp R q q ≡ true
 itself o q = (eq_by_cmp_equiv o).refl q
 
 nil_of_length : {A : Type 0} (es : List A) → length es ≡ 0 → es ≡ []

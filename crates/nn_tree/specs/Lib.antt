@@ -2,6 +2,7 @@ pub mod Totals
 pub mod Nodes
 pub mod Namespace
 pub mod Limits
+pub mod Imaged
 pub mod Changes
 pub mod Walks
 pub mod Spots

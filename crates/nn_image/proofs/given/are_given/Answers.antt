@@ -7,7 +7,7 @@ use Rattle.std.proofs.lemmas.List.Kept.{AllPairs-from_increasing}
 use Rattle.std.proofs.lemmas.Map.Keys.{IsDistinct-IsPermutation, IsStrictlyIncreasing-from_distinct}
 use Rattle.std.proofs.lemmas.Map.Made.{IsDistinct-from_AllPairs}
 use Rattle.std.proofs.lemmas.Bool.Decides.{Decides-eqb, nat_tests}
-use Rattle.nn_image.specs.Imaged.{AreGiven}
+use Rattle.nn_tree.specs.Imaged.{AreGiven}
 use Rattle.nn_image.proofs.given.are_given.Goals as goal
 
 flips : (x y : ℕ) → nat_eq x y ≡ nat_eq y x

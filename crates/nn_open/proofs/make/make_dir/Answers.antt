@@ -1,6 +1,6 @@
 use Rattle.std.proofs.Common.{sym, subst}
-use Rattle.nn_image.specs.Imaged.{IsImaged}
-use Rattle.nn_image.proofs.EmptyLemmas.{imaged_empty}
+use Rattle.nn_tree.specs.Imaged.{IsImaged}
+use Rattle.nn_tree.proofs.EmptyLemmas.{imaged_empty}
 use Rattle.nn_open.proofs.CallLemmas.{work_cleared, work_made}
 use Rattle.nn_open.proofs.make.make_dir.Goals as goal
 

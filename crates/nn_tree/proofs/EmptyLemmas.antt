@@ -1,4 +1,4 @@
--- For callers: the empty namespace has an image.
+-- For callers: the empty namespace can be saved.
 use Rattle.std.proofs.Common.{◌≡◌, ℕ, zero, suc, ◌≤◌, true, List, [], ◌∷◌, ◌++◌, map, Some, None, is_some, refl, sym, ap, subst, ◌∙◌, arith, length, length-append}
 use Rattle.std.specs.Prelude.{All}
 use Rattle.std.specs.List.{flat_map, IsDistinct}
@@ -10,7 +10,7 @@ use Rattle.nn_tree.specs.Nodes.{blocks_of, quota_of}
 use Rattle.nn_tree.specs.Namespace.{empty_namespace, root_node}
 use Rattle.nn_tree.proofs.LinksLemmas.{paths_total, some_of}
 use Rattle.nn_tree.proofs.LimitsLemmas.{limits_empty}
-use Rattle.nn_image.specs.Imaged.{IsImaged, AreGiven, blocks_in}
+use Rattle.nn_tree.specs.Imaged.{IsImaged, AreGiven, blocks_of_files}
 
 none_of_length : {A : Type 0} (es : List A) → length es ≡ 0 → es ≡ []
 none_of_length [] e = refl
@@ -54,7 +54,7 @@ none_given : (last : ℕ) → AreGiven [] last
 unfolding IsDistinct
 none_given last = record { once = tt; within = λ k d lt. absurd (omega arith) }
 
-no_blocks : blocks_in empty_namespace.nodes ≡ []
+no_blocks : blocks_of_files empty_namespace.nodes ≡ []
 no_blocks = ap (flat_map (λ e. blocks_of e.1.kind)) root_alone
 
 pub imaged_empty : IsImaged empty_namespace
