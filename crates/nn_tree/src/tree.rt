@@ -14,6 +14,7 @@ use std::alloc::Global;
 pub trait Tree: Sized + Drop {
     ghost use Rattle.nn_tree.specs.Namespace.{Namespace, usage_of, block_count, is_dir_at, is_file_at, empty_namespace};
     ghost use Rattle.nn_tree.specs.Limits.{IsWithinLimits, IsCounters};
+    ghost use Rattle.nn_tree.specs.Imaged.{IsImaged};
     ghost use Rattle.nn_tree.specs.Changes.{with_nodes, moved, move, cut, change_at, changed, with_block, takes_change};
     ghost use Rattle.nn_tree.specs.Walks.{IsWalk};
     ghost use Rattle.nn_tree.specs.Spots.{IsSound, last_name, IsParent, IsNextChild, Keeps, Removes, Spare, KeepsBlockRoom, KeepsSpare};
@@ -30,9 +31,10 @@ pub trait Tree: Sized + Drop {
     /// What needs no memory: one node more, and at some spots one block more.
     ghost spare: { Self → Spare };
 
-    /// The empty namespace.
+    /// The empty namespace, which can be saved.
     fn new(alloc: Global) -> Result<Self, NoMemory>
-        ensures { IfOk result (λ t. meaning t ≡ empty_namespace) };
+        ensures empty { IfOk result (λ t. meaning t ≡ empty_namespace) }
+        ensures imaged { IfOk result (λ t. IsImaged (meaning t)) };
 
     /// Walks along a path from the root, to its node or to the first obstacle.
     fn find(&self, path: &Path) -> Walk
