@@ -1,6 +1,6 @@
 //! The limits that more than one crate tests, as numbers of the code. `specs/Limits.antt` says the same to contracts.
 
-/// The layout that this program writes and reads. No layout of Hadoop is below -66, so neither takes the other's files.
+/// The layout that this program writes and reads. It is far from those of Hadoop, so that neither takes the other's files.
 pub const LAYOUT: i32 = -1001;
 
 /// How many name directories there may be.

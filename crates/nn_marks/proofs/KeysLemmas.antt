@@ -11,7 +11,9 @@ use Rattle.std.proofs.lemmas.Bool.Decides.{Decides-eqb}
 use Rattle.nn_marks.specs.declared.key.Key.{Key}
 use Rattle.nn_marks.specs.declared.key.Key.TheVariants.{NamespaceId, ClusterId, CTime, StorageType, BlockpoolId, LayoutVersion}
 use Rattle.nn_marks.specs.Given.{place_of, Marks}
-use Rattle.nn_marks.specs.Version.{Line, keys, front_of, value_in, value_of, key_in, first_of}
+use Rattle.nn_base.specs.First.{first_of}
+use Rattle.nn_base.proofs.FirstLemmas.{first_push}
+use Rattle.nn_marks.specs.Version.{Line, keys, front_of, value_in, value_of, key_in}
 
 key_at : ℕ → Key
 key_at zero = NamespaceId
@@ -77,14 +79,8 @@ pub value_from_key : (key : Key) (line : List ℕ) → key_in line ≡ Some key 
 value_from_key key line e = passes_if_first (λ k. is_some (value_in k line)) keys key e
 
 -- the value of a key among lines, with one more
-first_of-push : (os : List (Option (List ℕ))) (o : Option (List ℕ)) → first_of (os ++ o ∷ []) ≡ option_or (first_of os) o
-first_of-push [] None = refl
-first_of-push [] (Some x) = refl
-first_of-push (None ∷ os) o = first_of-push os o
-first_of-push (Some x ∷ os) o = refl
-
 pub value_of-push : (key : Key) (lines : List Line) (line : Line) → value_of key (lines ++ line ∷ []) ≡ option_or (value_of key lines) (value_in key line)
-value_of-push key lines line = ap first_of (map_push (value_in key) lines line) ∙ first_of-push (map (value_in key) lines) (value_in key line)
+value_of-push key lines line = ap first_of (map_push (value_in key) lines line) ∙ first_push (map (value_in key) lines) (value_in key line)
 
 is_some-or_none : (o : Option (List ℕ)) → is_some (option_or o None) ≡ is_some o
 is_some-or_none None = refl

@@ -4,3 +4,4 @@ pub mod LinesLemmas
 pub mod LineFaults
 pub mod KeysLemmas
 pub mod VersionTextLemmas
+pub mod FaultlessLemmas

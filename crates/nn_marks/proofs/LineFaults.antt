@@ -5,7 +5,9 @@ use Rattle.std.proofs.lemmas.List.{take_more, drop_more, length-drop, length-tak
 use Rattle.nn_marks.specs.declared.key.Key.{Key}
 use Rattle.nn_marks.specs.declared.fault.VersionFault.{VersionFault}
 use Rattle.nn_marks.specs.declared.fault.VersionFault.TheVariants.{BadLine, Twice}
-use Rattle.nn_marks.specs.Version.{Line, first_of}
+use Rattle.nn_base.specs.First.{first_of}
+use Rattle.nn_base.proofs.FirstLemmas.{first_behind, first_here}
+use Rattle.nn_marks.specs.Version.{Line}
 use Rattle.nn_marks.specs.VersionFaults.{line_fault, line_faults, is_bad, twice_key}
 
 -- the first fault from line n on
@@ -38,14 +40,6 @@ line_at lines n line after e =
       behind = cc;
     }
 
-first_of-cons_none : (o : Option VersionFault) (rest : List (Option VersionFault)) → o ≡ None → first_of (o ∷ rest) ≡ first_of rest
-first_of-cons_none None rest e = refl
-first_of-cons_none (Some f) rest e = cc
-
-first_of-cons_some : (o : Option VersionFault) (rest : List (Option VersionFault)) (f : VersionFault) → o ≡ Some f → first_of (o ∷ rest) ≡ Some f
-first_of-cons_some None rest f e = cc
-first_of-cons_some (Some g) rest f e = e
-
 -- a line without a fault is passed over, and one with a fault ends the walk
 pub faults_pass : (lines : List Line) (n : ℕ) (line : Line) (after : List Line) → drop n lines ≡ line ∷ after → line_fault (take n lines) line ≡ None
     → faults_from lines n ≡ faults_from lines (n + 1)
@@ -53,7 +47,7 @@ unfolding faults_from
 faults_pass lines n line after e none =
     let F : ℕ × Line → Option VersionFault = λ place. line_fault (take place.0 lines) place.1 in
     ap (λ rest. first_of (map F (enumerate_from n rest))) e
-    ∙ first_of-cons_none (line_fault (take n lines) line) (map F (enumerate_from (n + 1) after)) none
+    ∙ first_behind (line_fault (take n lines) line) (map F (enumerate_from (n + 1) after)) none
     ∙ ap (λ rest. first_of (map F (enumerate_from (n + 1) rest))) (sym (line_at lines n line after e).behind)
 
 pub faults_stop : (lines : List Line) (n : ℕ) (line : Line) (after : List Line) (fault : VersionFault) → drop n lines ≡ line ∷ after → line_fault (take n lines) line ≡ Some fault
@@ -62,7 +56,7 @@ unfolding faults_from
 faults_stop lines n line after fault e some =
     let F : ℕ × Line → Option VersionFault = λ place. line_fault (take place.0 lines) place.1 in
     ap (λ rest. first_of (map F (enumerate_from n rest))) e
-    ∙ first_of-cons_some (line_fault (take n lines) line) (map F (enumerate_from (n + 1) after)) fault some
+    ∙ first_here (line_fault (take n lines) line) (map F (enumerate_from (n + 1) after)) fault some
 
 pub faults_end : (lines : List Line) (n : ℕ) → drop n lines ≡ [] → faults_from lines n ≡ None
 unfolding faults_from

@@ -21,8 +21,10 @@ use Rattle.nn_marks.specs.declared.key.Key.TheVariants.{NamespaceId, ClusterId, 
 use Rattle.nn_marks.specs.declared.fault.VersionFault.{VersionFault}
 use Rattle.nn_marks.specs.declared.fault.VersionFault.TheVariants.{TooLong, NotText}
 use Rattle.nn_marks.specs.declared.version.Version.{Version}
-use Rattle.nn_marks.specs.Version.{Line, keys, front_of, first_of}
-use Rattle.nn_marks.specs.VersionFaults.{fault_of, when, is_text_byte, is_positive, is_value, key_fault, line_faults}
+use Rattle.nn_base.specs.Limits.{most_version}
+use Rattle.nn_base.specs.First.{when, first_of}
+use Rattle.nn_marks.specs.Version.{Line, keys, front_of}
+use Rattle.nn_marks.specs.VersionFaults.{fault_of, is_text_byte, is_positive, is_value, key_fault, line_faults}
 use Rattle.nn_marks.specs.VersionText.{Says, IsVersionText, value_text, line_text, version_text_of}
 use Rattle.nn_marks.proofs.SeenLemmas.{number_in-decimal, length-decimal_id}
 use Rattle.nn_marks.proofs.LinesLemmas.{lines-append, is_newline}
@@ -189,11 +191,11 @@ text_bytes version w (key ∷ ks) =
 no_first : (a b c : Option VersionFault) (rest : List (Option VersionFault)) → a ≡ None → b ≡ None → c ≡ None → first_of rest ≡ None → first_of (a ∷ b ∷ c ∷ rest) ≡ None
 no_first a b c rest p q r s = (λ i. first_of (p i ∷ q i ∷ r i ∷ rest)) ∙ s
 
-sound : (bytes : List ℕ) → length bytes ≤ 65536 → list_all is_text_byte bytes ≡ true → first_of (line_faults (lines bytes)) ≡ None
+sound : (bytes : List ℕ) → length bytes ≤ most_version → list_all is_text_byte bytes ≡ true → first_of (line_faults (lines bytes)) ≡ None
     → first_of (map (key_fault (lines bytes)) keys) ≡ None → fault_of bytes ≡ None
 unfolding fault_of
 sound bytes short text lines_fine keys_fine =
-    no_first _ _ _ (map (key_fault (lines bytes)) keys) (ap (λ b. when b TooLong) (le-ltb 65536 (length bytes) short)) (ap (λ b. when (not b) NotText) text) lines_fine keys_fine
+    no_first _ _ _ (map (key_fault (lines bytes)) keys) (ap (λ b. when b TooLong) (le-ltb most_version (length bytes) short)) (ap (λ b. when (not b) NotText) text) lines_fine keys_fine
 
 -- what is written of a Version reads back as it
 pub reads_back : (version : Version) → IsVersionText (version_text_of version) version

@@ -1,6 +1,7 @@
 -- VERSION, the file that says which cluster and which layout a folder belongs to: the values that its lines give the keys.
 use Rattle.std.specs.Prelude.{ℕ, Bool, true, ◌==◌, List, [], ◌∷◌, ◌++◌, length, drop, map, codes, nat_eq, Option, Some, None, is_some, if◌then◌else◌}
 use Rattle.std.specs.List.{starts_with}
+use Rattle.nn_base.specs.First.{first_of}
 use Rattle.nn_marks.specs.declared.key.Key.{Key}
 use Rattle.nn_marks.specs.declared.key.Key.TheVariants.{NamespaceId, ClusterId, CTime, StorageType, BlockpoolId, LayoutVersion}
 
@@ -27,12 +28,6 @@ front_of key = name_of key ++ codes "="
 -- the value that a line gives a key: what stands behind the `=`
 abbrev pub value_in : Key → Line → Option (List ℕ)
 value_in key line = if starts_with nat_eq line (front_of key) then Some (drop (length (front_of key)) line) else None
-
--- the first that is there
-abbrev pub first_of : {A : Type 0} → List (Option A) → Option A
-first_of [] = None
-first_of (None ∷ rest) = first_of rest
-first_of (Some x ∷ rest) = Some x
 
 -- the value that the first such line gives a key
 abbrev pub value_of : Key → List Line → Option (List ℕ)

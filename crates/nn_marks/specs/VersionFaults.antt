@@ -5,17 +5,15 @@ use Rattle.std.specs.Option.{option_and_then, option_map}
 use Rattle.std.specs.Str.{bytes_eq}
 use Rattle.std.specs.Str.Lines.{lines}
 use Rattle.std.specs.Str.Parse.{digits_value}
+use Rattle.nn_base.specs.Limits.{most_version}
+use Rattle.nn_base.specs.First.{when, first_of}
 use Rattle.nn_base.specs.Decimal.{is_number}
 use Rattle.nn_base.specs.Words.{is_word}
 use Rattle.nn_marks.specs.declared.key.Key.{Key}
 use Rattle.nn_marks.specs.declared.key.Key.TheVariants.{NamespaceId, ClusterId, CTime, StorageType, BlockpoolId, LayoutVersion}
 use Rattle.nn_marks.specs.declared.fault.VersionFault.{VersionFault}
 use Rattle.nn_marks.specs.declared.fault.VersionFault.TheVariants.{TooLong, NotText, BadLine, Twice, Missing, BadNumber, BadWord}
-use Rattle.nn_marks.specs.Version.{Line, keys, value_of, key_in, is_skipped, first_of}
-
--- a fault where the test says so
-abbrev pub when : Bool → VersionFault → Option VersionFault
-when test fault = if test then Some fault else None
+use Rattle.nn_marks.specs.Version.{Line, keys, value_of, key_in, is_skipped}
 
 -- a tab, a newline, a carriage return, and what ASCII prints
 abbrev pub is_text_byte : ℕ → Bool
@@ -71,7 +69,7 @@ line_faults lines = map (λ place. line_fault (take place.0 lines) place.1) (enu
 -- the first fault of a file
 unfoldable pub fault_of : List ℕ → Option VersionFault
 fault_of bytes = first_of (
-    when (nat_lt 65536 (length bytes)) TooLong
+    when (nat_lt most_version (length bytes)) TooLong
     ∷ when (not (list_all is_text_byte bytes)) NotText
     ∷ first_of (line_faults (lines bytes))
     ∷ map (key_fault (lines bytes)) keys)

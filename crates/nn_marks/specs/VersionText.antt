@@ -23,6 +23,10 @@ pub record IsVersionText (bytes : List ℕ) (version : Version) : Type 0 where
   pub sound : fault_of bytes ≡ None
   pub says : Says (lines bytes) version
 
+-- each text without a fault says something
+abbrev pub FaultlessSays : Type 0
+FaultlessSays = (bytes : List ℕ) → fault_of bytes ≡ None → (version : Version) × IsVersionText bytes version
+
 -- the value of a key as it is written
 abbrev pub value_text : Version → Key → List ℕ
 value_text version NamespaceId = decimal version.namespace

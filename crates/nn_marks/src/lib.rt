@@ -6,6 +6,7 @@
 mod digest;
 mod fault;
 mod key;
+pub mod laws;
 mod line_check;
 mod lines;
 mod seen;
@@ -20,5 +21,5 @@ pub use fault::VersionFault;
 pub use key::Key;
 pub use seen::{seen_read, seen_text};
 pub use version::Version;
-pub use version_reading::{MAX_VERSION, version_read};
+pub use version_reading::version_read;
 pub use version_writing::version_text;

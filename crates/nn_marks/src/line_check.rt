@@ -2,7 +2,9 @@
 ghost use Rattle.std.specs.Prelude.{◌≡◌, ◌≤◌, List, [], ◌∷◌, ◌++◌, IsNone, length};
 ghost use Rattle.std.specs.Str.Lines.{lines};
 ghost use Rattle.nn_marks.specs.Given.{place_of, Marks};
-ghost use Rattle.nn_marks.specs.Version.{Line, first_of};
+ghost use Rattle.nn_base.specs.Limits.{most_version};
+ghost use Rattle.nn_base.specs.First.{first_of};
+ghost use Rattle.nn_marks.specs.Version.{Line};
 ghost use Rattle.nn_marks.specs.VersionFaults.{twice_key, line_faults};
 
 use crate::lines::{first_line, is_bad, key_in};
@@ -10,7 +12,7 @@ use crate::{Key, VersionFault};
 
 // The first line without a `=`, or with a key that a line before it gave.
 pub(crate) fn line_fault(text: &[u8]) -> Option<VersionFault>
-    requires { length text.now ≤ 65536 }
+    requires { length text.now ≤ most_version }
     ensures { result ≡ first_of (line_faults (lines text.now)) }
 {
     let mut given = [false; 6];

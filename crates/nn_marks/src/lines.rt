@@ -3,7 +3,8 @@ ghost use Rattle.std.specs.Prelude.{◌≡◌, ◌==◌, ◌<◌, ◌∷◌, Som
 ghost use Rattle.std.specs.List.{list_any, position};
 ghost use Rattle.std.specs.Option.{option_copied};
 ghost use Rattle.std.specs.Str.Lines.{lines, strip_carriage_return};
-ghost use Rattle.nn_marks.specs.Version.{value_in, value_of, key_in, is_skipped, first_of};
+ghost use Rattle.nn_base.specs.First.{first_of};
+ghost use Rattle.nn_marks.specs.Version.{value_in, value_of, key_in, is_skipped};
 ghost use Rattle.nn_marks.specs.VersionFaults.{is_bad};
 
 use crate::Key;

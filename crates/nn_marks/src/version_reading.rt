@@ -5,7 +5,8 @@ ghost use Rattle.std.specs.Str.Lines.{lines};
 ghost use Rattle.std.specs.Str.Parse.{digits_value};
 ghost use Rattle.nn_base.specs.Words.{is_word};
 ghost use Rattle.nn_marks.specs.declared.key.Key.TheVariants.{NamespaceId, ClusterId, CTime, StorageType, BlockpoolId, LayoutVersion};
-ghost use Rattle.nn_marks.specs.Version.{keys, value_of, first_of};
+ghost use Rattle.nn_base.specs.First.{first_of};
+ghost use Rattle.nn_marks.specs.Version.{keys, value_of};
 ghost use Rattle.nn_marks.specs.VersionFaults.{fault_of, is_text_byte, is_value, is_positive, bad_value, key_fault};
 ghost use Rattle.nn_marks.specs.VersionText.{IsVersionText, Says};
 
@@ -14,9 +15,7 @@ use crate::lines::value_of;
 use crate::{Key, Version, VersionFault};
 use nn_base::Word;
 use nn_base::decimal::number;
-
-/// The longest VERSION file that is read, in bytes.
-pub const MAX_VERSION: usize = 65_536;
+use nn_base::limits::MOST_VERSION;
 
 /// What a VERSION file says. Its lines may stand in any order and end with a carriage return before the newline; the last newline
 /// may be missing; empty lines, lines that begin with `#` and unknown keys are skipped. The fault is the first that there is, as
@@ -26,7 +25,7 @@ pub fn version_read(bytes: &[u8]) -> Result<Version, VersionFault>
     ensures ok { IfOk result (IsVersionText bytes.now) }
     ensures err { IfErr result (λ fault. fault_of bytes.now ≡ Some fault) }
 {
-    if MAX_VERSION < bytes.len() {
+    if MOST_VERSION < bytes.len() {
         return Err(VersionFault::TooLong);
     }
     if !is_text(bytes) {

@@ -1,7 +1,7 @@
 use Rattle.std.proofs.Common.{◌≡◌, ◌+◌, ◌≤◌, length, take, drop}
 use Rattle.std.specs.Str.Lines.{lines}
 use Rattle.nn_marks.specs.Given.{Marks}
-use Rattle.nn_marks.specs.Version.{first_of}
+use Rattle.nn_base.specs.First.{first_of}
 use Rattle.nn_marks.specs.VersionFaults.{line_faults}
 use Rattle.nn_marks.proofs.LineFaults.{faults_from}
 use Rattle.nn_marks.proofs.line_check.line_fault.Given as goal
