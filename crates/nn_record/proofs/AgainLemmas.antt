@@ -6,7 +6,9 @@ use Rattle.std.proofs.lemmas.Bool.{le-ltb, lt-ltb, le-leb}
 use Rattle.std.proofs.lemmas.List.{take_at, drop_at}
 use Rattle.std.proofs.lemmas.Nat.{from_be_bytes-to_be_bytes_2, from_be_bytes-to_be_bytes_4, from_be_bytes-to_be_bytes_8}
 use Rattle.nn_base.specs.Paths.{Names, IsPath, text_of}
-use Rattle.nn_record.specs.Ops.{IsLong, IsMode, IsLabel}
+use Rattle.nn_base.specs.Limits.{IsLong}
+use Rattle.nn_base.specs.Labels.{IsLabel}
+use Rattle.nn_record.specs.Ops.{IsMode}
 use Rattle.nn_record.specs.Spelling.{u16, u32, u64, path, name, bound}
 use Rattle.nn_record.specs.Reading.{byte_at, number_at, text_at, long_at, mode_at, path_at, name_at, bound_at}
 use Rattle.nn_record.proofs.PathLemmas.{path_in_again, text_small}

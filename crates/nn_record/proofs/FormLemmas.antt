@@ -6,8 +6,9 @@ use Rattle.nn_wire.specs.Crc32.{crc32_of}
 use Rattle.nn_record.specs.declared.op.Op.{Op}
 use Rattle.nn_record.specs.declared.op.Op.TheVariants.{Add, RenameOld, Delete, Mkdir, SetReplication, SetPermissions, SetOwner, Close, SetQuota, EndLogSegment, StartLogSegment, AddBlock}
 use Rattle.nn_record.specs.declared.transaction.Record.{Record}
-use Rattle.nn_record.specs.Ops.{IsOp, IsHeld, IsLabel}
-use Rattle.nn_record.specs.Spelling.{u16, u32, u64, path, name, bound, body_of, unsealed, sealed, IsRecord}
+use Rattle.nn_base.specs.Labels.{IsLabel}
+use Rattle.nn_record.specs.Ops.{IsOp, IsHeld}
+use Rattle.nn_record.specs.Spelling.{u16, u32, u64, path, name, bound, body_bytes, unsealed, sealed, IsRecord}
 use Rattle.nn_record.proofs.FrameLemmas.{length-u32, length-u64}
 use Rattle.nn_record.proofs.PathLemmas.{text_small}
 use Rattle.nn_record.proofs.RecordLemmas.{length-spelling}
@@ -44,8 +45,8 @@ eight n = omega (arith, length-u64 n)
 eight_bound : (most : Option ℕ) → length (bound most) ≤ 8
 eight_bound most = omega (arith, length-bound most)
 
-pub body_small : (op : Op) → IsHeld op → length (body_of op) ≤ 17000
-unfolding body_of
+pub body_small : (op : Op) → IsHeld op → length (body_bytes op) ≤ 17000
+unfolding body_bytes
 body_small (Add inode p replication time owner group mode) is = omega (arith, longer _ _ _ _ (longer _ _ _ _ (longer _ _ _ _ (longer _ _ _ _ (longer _ _ _ _ (longer _ _ _ _ (eight inode) (path_small p is.0)) (two replication)) (eight time)) (name_small owner is.1)) (name_small group is.2)) (two mode))
 body_small (RenameOld old new time) is = omega (arith, longer _ _ _ _ (longer _ _ _ _ (path_small old is.0) (path_small new is.1)) (eight time))
 body_small (Delete p time) is = omega (arith, longer _ _ _ _ (path_small p is) (eight time))

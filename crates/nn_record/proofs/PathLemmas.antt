@@ -3,12 +3,13 @@ use Rattle.std.proofs.Common.{◌≡◌, ℕ, zero, suc, ◌+◌, ◌<◌, ◌�
 use Rattle.std.specs.List.{slice_get}
 use Rattle.std.proofs.Math.ListN.{drop_of_length-le}
 use Rattle.nn_base.specs.declared.path.fault.PathFault.{PathFault}
+use Rattle.nn_base.specs.Limits.{most_path}
 use Rattle.nn_base.specs.Paths.{Names, IsPath, joined, text_of}
 use Rattle.nn_base.specs.PathText.{parts_of, fault_of}
 use Rattle.nn_base.proofs.PathTextLemmas.{parts_of-text_of, fault_of-text_of}
 use Rattle.nn_record.specs.Reading.{unless, path_in}
 
-pub text_small : (names : Names) → IsPath names → length (text_of names) ≤ 8000
+pub text_small : (names : Names) → IsPath names → length (text_of names) ≤ most_path
 text_small [] is = omega arith
 text_small (name ∷ rest) is = is.size
 

@@ -5,9 +5,10 @@ use Rattle.std.proofs.lemmas.Bool.{le-ltb, le-leb, eq-eqb}
 use Rattle.std.proofs.lemmas.List.{take_at, append-nil}
 use Rattle.std.proofs.lemmas.Nat.{xor_lt}
 use Rattle.nn_wire.specs.Crc32.{polynomial, all_ones, next_bit, next_bits, with_byte, crc32_of}
+use Rattle.nn_record.specs.declared.op.Op.TheVariants.{StartLogSegment, EndLogSegment}
 use Rattle.nn_record.specs.declared.transaction.Record.{Record}
 use Rattle.nn_record.specs.Ops.{opcode_of}
-use Rattle.nn_record.specs.Spelling.{u32, u64, body_of, unsealed, sealed, spelling, IsRecord, NoneBeginsAnother}
+use Rattle.nn_record.specs.Spelling.{u32, u64, body_bytes, unsealed, sealed, spelling, IsRecord, NoneBeginsAnother}
 use Rattle.nn_record.specs.Reading.{byte_at, number_at, text_at}
 use Rattle.nn_record.specs.RecordReading.{id_at, rest_at, frame_at, op_at, record_at}
 use Rattle.nn_record.proofs.FieldLemmas.{IsBytes, IsBytes-front}
@@ -50,11 +51,20 @@ frame_parts opcode id body rest =
     let text = unsealed opcode id body in
     append_assoc text (u32 (crc32_of text)) rest ∙ unsealed_parts opcode id body (u32 (crc32_of text) ++ rest)
 
-pub length-spelling : (r : Record) → length (spelling r) ≡ 17 + length (body_of r.op)
+pub length-spelling : (r : Record) → length (spelling r) ≡ 17 + length (body_bytes r.op)
 unfolding spelling sealed
 length-spelling r =
-    let text = unsealed (opcode_of r.op) r.id (body_of r.op) in
-    omega (arith, length-append text (u32 (crc32_of text)), length-unsealed (opcode_of r.op) r.id (body_of r.op), length-u32 (crc32_of text))
+    let text = unsealed (opcode_of r.op) r.id (body_bytes r.op) in
+    omega (arith, length-append text (u32 (crc32_of text)), length-unsealed (opcode_of r.op) r.id (body_bytes r.op), length-u32 (crc32_of text))
+
+-- the records that begin and end a segment have no body
+pub length-start : (id : ℕ) → length (spelling (record { id = id; op = StartLogSegment })) ≡ 17
+unfolding body_bytes
+length-start id = length-spelling (record { id = id; op = StartLogSegment })
+
+pub length-end : (id : ℕ) → length (spelling (record { id = id; op = EndLogSegment })) ≡ 17
+unfolding body_bytes
+length-end id = length-spelling (record { id = id; op = EndLogSegment })
 
 -- ---- what is spelled is read again
 
@@ -83,7 +93,7 @@ frame_again opcode id body rest short first last small =
 pub record_again : (r : Record) (rest : List ℕ) → IsRecord r → IsBytes (spelling r ++ rest) → record_at (spelling r ++ rest) ≡ Some (r, rest)
 unfolding record_at spelling sealed
 record_again r rest is fits =
-    let body = body_of r.op in
+    let body = body_bytes r.op in
     let text = unsealed (opcode_of r.op) r.id body in
     let small : crc32_of text < 2 ^ 32 = crc32_small text (IsBytes-front text (u32 (crc32_of text)) (IsBytes-front (sealed text) rest fits)) in
     let whole : op_at (opcode_of r.op) body ≡ Some (r.op, []) = ap (op_at (opcode_of r.op)) (sym (append-nil body)) ∙ op_again r.op [] is.op is.held in
@@ -103,8 +113,8 @@ one_field {A = A} x y r s e =
 pub none_begins_another : NoneBeginsAnother
 unfolding spelling
 none_begins_another r s a b r_is s_is e =
-    let r_body = body_of r.op in
-    let s_body = body_of s.op in
+    let r_body = body_bytes r.op in
+    let s_body = body_bytes s.op in
     let r_text = unsealed (opcode_of r.op) r.id r_body in
     let s_text = unsealed (opcode_of s.op) s.id s_body in
     let r4 = u32 (crc32_of r_text) ++ a in

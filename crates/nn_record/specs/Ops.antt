@@ -1,7 +1,9 @@
 -- The changes that a record may hold: their opcodes, and the bounds of their fields.
-use Rattle.std.specs.Prelude.{ℕ, ◌^◌, ◌<◌, ◌≤◌, List, length, IfSome}
+use Rattle.std.specs.Prelude.{ℕ, ◌^◌, ◌<◌, ◌≤◌}
+use Rattle.nn_base.specs.Limits.{IsLong}
+use Rattle.nn_base.specs.Labels.{IsLabel}
 use Rattle.nn_base.specs.Paths.{IsPath}
-use Rattle.nn_quota.specs.declared.quota.Quota.{Quota}
+use Rattle.nn_quota.specs.Quotas.{IsQuota}
 use Rattle.nn_record.specs.declared.op.Op.{Op}
 use Rattle.nn_record.specs.declared.op.Op.TheVariants.{Add, RenameOld, Delete, Mkdir, SetReplication, SetPermissions, SetOwner, Close, SetQuota, EndLogSegment, StartLogSegment, AddBlock}
 
@@ -22,19 +24,11 @@ opcode_of (AddBlock path id stamp length) = 33
 
 -- ---- what a change keeps
 
--- times, ids and stamps are Hadoop's signed longs, and none is negative
-abbrev pub IsLong : ℕ → Type 0
-IsLong n = n < 2 ^ 63
-
 -- nine bits of permissions and the sticky bit: at most 1777 in octal
 abbrev pub IsMode : ℕ → Type 0
 IsMode mode = mode ≤ 1023
 
--- a bound that is set is a long as well
-abbrev pub IsQuota : Quota → Type 0
-IsQuota quota = IfSome quota.names IsLong × IfSome quota.space IsLong
-
--- the numbers are in their ranges; those that are bounded by their widths alone stand below
+-- the numbers are in their ranges (times, ids and stamps are longs); those that are bounded by their widths alone stand below
 abbrev pub IsOp : Op → Type 0
 IsOp (Add inode path replication time owner group mode) = IsLong inode × IsLong time × IsMode mode
 IsOp (RenameOld old new time) = IsLong time
@@ -50,10 +44,6 @@ IsOp StartLogSegment = Unit {0}
 IsOp (AddBlock path id stamp length) = IsLong id × IsLong stamp
 
 -- ---- what its types keep by themselves
-
--- the name of an owner or of a group
-abbrev pub IsLabel : List ℕ → Type 0
-IsLabel label = (1 ≤ length label) × (length label ≤ 32)
 
 -- the paths are paths, the names of owners and groups are such, and a replication and the length of a block fit their widths
 abbrev pub IsHeld : Op → Type 0

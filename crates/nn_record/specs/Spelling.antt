@@ -1,6 +1,7 @@
 -- The one spelling of each record: opcode, length, transaction id, body and checksum, all numbers big-endian.
 use Rattle.std.specs.Prelude.{◌≡◌, ℕ, ◌+◌, ◌-◌, ◌^◌, ◌<◌, ◌≤◌, List, [], ◌∷◌, ◌++◌, length, Option, Some, None}
 use Rattle.std.specs.Int.{w16, w32, w64, to_be_bytes}
+use Rattle.nn_base.specs.Limits.{most_record}
 use Rattle.nn_base.specs.Paths.{Names, text_of}
 use Rattle.nn_wire.specs.Crc32.{crc32_of}
 use Rattle.nn_record.specs.declared.op.Op.{Op}
@@ -34,26 +35,26 @@ bound (Some most) = u64 most
 
 -- ---- the body of each opcode
 
-unfoldable pub body_of : Op → List ℕ
-body_of (Add inode p replication time owner group mode) = u64 inode ++ path p ++ u16 replication ++ u64 time ++ name owner ++ name group ++ u16 mode
-body_of (RenameOld old new time) = path old ++ path new ++ u64 time
-body_of (Delete p time) = path p ++ u64 time
-body_of (Mkdir inode p time owner group mode) = u64 inode ++ path p ++ u64 time ++ name owner ++ name group ++ u16 mode
-body_of (SetReplication p replication) = path p ++ u16 replication
-body_of (SetPermissions p mode) = path p ++ u16 mode
-body_of (SetOwner p owner group) = path p ++ name owner ++ name group
-body_of (Close p time) = path p ++ u64 time
-body_of (SetQuota p quota) = path p ++ bound quota.names ++ bound quota.space
-body_of EndLogSegment = []
-body_of StartLogSegment = []
-body_of (AddBlock p id stamp size) = path p ++ u64 id ++ u64 stamp ++ u64 size
+unfoldable pub body_bytes : Op → List ℕ
+body_bytes (Add inode p replication time owner group mode) = u64 inode ++ path p ++ u16 replication ++ u64 time ++ name owner ++ name group ++ u16 mode
+body_bytes (RenameOld old new time) = path old ++ path new ++ u64 time
+body_bytes (Delete p time) = path p ++ u64 time
+body_bytes (Mkdir inode p time owner group mode) = u64 inode ++ path p ++ u64 time ++ name owner ++ name group ++ u16 mode
+body_bytes (SetReplication p replication) = path p ++ u16 replication
+body_bytes (SetPermissions p mode) = path p ++ u16 mode
+body_bytes (SetOwner p owner group) = path p ++ name owner ++ name group
+body_bytes (Close p time) = path p ++ u64 time
+body_bytes (SetQuota p quota) = path p ++ bound quota.names ++ bound quota.space
+body_bytes EndLogSegment = []
+body_bytes StartLogSegment = []
+body_bytes (AddBlock p id stamp size) = path p ++ u64 id ++ u64 stamp ++ u64 size
 
 -- bytes that begin with the body of an op of this opcode
 pub record IsBody (code : ℕ) (change : Op) (bytes rest : List ℕ) : Type 0 where
   pub opcode : opcode_of change ≡ code
   pub op : IsOp change
   pub held : IsHeld change
-  pub text : bytes ≡ body_of change ++ rest
+  pub text : bytes ≡ body_bytes change ++ rest
 
 -- ---- the whole record
 
@@ -66,7 +67,7 @@ unfoldable pub sealed : List ℕ → List ℕ
 sealed text = text ++ u32 (crc32_of text)
 
 unfoldable pub spelling : Record → List ℕ
-spelling r = sealed (unsealed (opcode_of r.op) r.id (body_of r.op))
+spelling r = sealed (unsealed (opcode_of r.op) r.id (body_bytes r.op))
 
 -- Bytes that begin with a whole frame: all that its length counts is there, the checksum agrees, and it is no longer than a
 -- record may be. Whether the body has a reading isn't said.
@@ -77,7 +78,7 @@ pub record BeginsWithFrame (bytes : List ℕ) : Type 0 where
   pub after : List ℕ
   pub first : 1 ≤ id
   pub last : id < 2 ^ 63
-  pub size : length (sealed (unsealed opcode id body)) ≤ 65536
+  pub size : length (sealed (unsealed opcode id body)) ≤ most_record
   pub text : bytes ≡ sealed (unsealed opcode id body) ++ after
 
 -- what has a spelling: a record with an id from 1 to 2^63 - 1 whose fields are in their ranges
@@ -86,7 +87,7 @@ pub record IsRecord (r : Record) : Type 0 where
   pub last : r.id < 2 ^ 63
   pub op : IsOp r.op
   pub held : IsHeld r.op
-  pub size : length (spelling r) ≤ 65536
+  pub size : length (spelling r) ≤ most_record
 
 -- bytes that begin with the spelling of r, and rest after it
 pub record Begins (bytes : List ℕ) (r : Record) (rest : List ℕ) : Type 0 where

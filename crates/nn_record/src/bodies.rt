@@ -15,7 +15,7 @@ use nn_quota::Quota;
 use std::alloc::Global;
 
 /// Takes the fields of an opcode, and leaves what follows them.
-#[tactic(auto, unfolding(crate::specs::RecordReading::op_at, crate::specs::Spelling::body_of))]
+#[tactic(auto, unfolding(crate::specs::RecordReading::op_at, crate::specs::Spelling::body_bytes))]
 pub(crate) fn take_op(alloc: Global, opcode: u8, body: &mut &[u8]) -> Result<Op, Unread>
     ensures found { IfOk result (λ op. IsBody opcode op body.old.now body.new.now) }
     ensures exact { Gives result body.new.now (reading.op_at opcode body.old.now) }
@@ -37,7 +37,7 @@ pub(crate) fn take_op(alloc: Global, opcode: u8, body: &mut &[u8]) -> Result<Op,
     }
 }
 
-#[tactic(auto, unfolding(crate::specs::RecordReading::add_at, crate::specs::Spelling::body_of))]
+#[tactic(auto, unfolding(crate::specs::RecordReading::add_at, crate::specs::Spelling::body_bytes))]
 fn take_add(alloc: Global, body: &mut &[u8]) -> Result<Op, Unread>
     ensures found { IfOk result (λ op. IsBody 0 op body.old.now body.new.now) }
     ensures exact { Gives result body.new.now (reading.add_at body.old.now) }
@@ -53,7 +53,7 @@ fn take_add(alloc: Global, body: &mut &[u8]) -> Result<Op, Unread>
     })
 }
 
-#[tactic(auto, unfolding(crate::specs::RecordReading::rename_old_at, crate::specs::Spelling::body_of))]
+#[tactic(auto, unfolding(crate::specs::RecordReading::rename_old_at, crate::specs::Spelling::body_bytes))]
 fn take_rename_old(alloc: Global, body: &mut &[u8]) -> Result<Op, Unread>
     ensures found { IfOk result (λ op. IsBody 1 op body.old.now body.new.now) }
     ensures exact { Gives result body.new.now (reading.rename_old_at body.old.now) }
@@ -65,7 +65,7 @@ fn take_rename_old(alloc: Global, body: &mut &[u8]) -> Result<Op, Unread>
     })
 }
 
-#[tactic(auto, unfolding(crate::specs::RecordReading::delete_at, crate::specs::Spelling::body_of))]
+#[tactic(auto, unfolding(crate::specs::RecordReading::delete_at, crate::specs::Spelling::body_bytes))]
 fn take_delete(alloc: Global, body: &mut &[u8]) -> Result<Op, Unread>
     ensures found { IfOk result (λ op. IsBody 2 op body.old.now body.new.now) }
     ensures exact { Gives result body.new.now (reading.delete_at body.old.now) }
@@ -76,7 +76,7 @@ fn take_delete(alloc: Global, body: &mut &[u8]) -> Result<Op, Unread>
     })
 }
 
-#[tactic(auto, unfolding(crate::specs::RecordReading::mkdir_at, crate::specs::Spelling::body_of))]
+#[tactic(auto, unfolding(crate::specs::RecordReading::mkdir_at, crate::specs::Spelling::body_bytes))]
 fn take_mkdir(alloc: Global, body: &mut &[u8]) -> Result<Op, Unread>
     ensures found { IfOk result (λ op. IsBody 3 op body.old.now body.new.now) }
     ensures exact { Gives result body.new.now (reading.mkdir_at body.old.now) }
@@ -91,7 +91,7 @@ fn take_mkdir(alloc: Global, body: &mut &[u8]) -> Result<Op, Unread>
     })
 }
 
-#[tactic(auto, unfolding(crate::specs::RecordReading::set_replication_at, crate::specs::Spelling::body_of))]
+#[tactic(auto, unfolding(crate::specs::RecordReading::set_replication_at, crate::specs::Spelling::body_bytes))]
 fn take_set_replication(alloc: Global, body: &mut &[u8]) -> Result<Op, Unread>
     ensures found { IfOk result (λ op. IsBody 4 op body.old.now body.new.now) }
     ensures exact { Gives result body.new.now (reading.set_replication_at body.old.now) }
@@ -102,7 +102,7 @@ fn take_set_replication(alloc: Global, body: &mut &[u8]) -> Result<Op, Unread>
     })
 }
 
-#[tactic(auto, unfolding(crate::specs::RecordReading::set_permissions_at, crate::specs::Spelling::body_of))]
+#[tactic(auto, unfolding(crate::specs::RecordReading::set_permissions_at, crate::specs::Spelling::body_bytes))]
 fn take_set_permissions(alloc: Global, body: &mut &[u8]) -> Result<Op, Unread>
     ensures found { IfOk result (λ op. IsBody 7 op body.old.now body.new.now) }
     ensures exact { Gives result body.new.now (reading.set_permissions_at body.old.now) }
@@ -113,7 +113,7 @@ fn take_set_permissions(alloc: Global, body: &mut &[u8]) -> Result<Op, Unread>
     })
 }
 
-#[tactic(auto, unfolding(crate::specs::RecordReading::set_owner_at, crate::specs::Spelling::body_of))]
+#[tactic(auto, unfolding(crate::specs::RecordReading::set_owner_at, crate::specs::Spelling::body_bytes))]
 fn take_set_owner(alloc: Global, body: &mut &[u8]) -> Result<Op, Unread>
     ensures found { IfOk result (λ op. IsBody 8 op body.old.now body.new.now) }
     ensures exact { Gives result body.new.now (reading.set_owner_at body.old.now) }
@@ -125,7 +125,7 @@ fn take_set_owner(alloc: Global, body: &mut &[u8]) -> Result<Op, Unread>
     })
 }
 
-#[tactic(auto, unfolding(crate::specs::RecordReading::close_at, crate::specs::Spelling::body_of))]
+#[tactic(auto, unfolding(crate::specs::RecordReading::close_at, crate::specs::Spelling::body_bytes))]
 fn take_close(alloc: Global, body: &mut &[u8]) -> Result<Op, Unread>
     ensures found { IfOk result (λ op. IsBody 9 op body.old.now body.new.now) }
     ensures exact { Gives result body.new.now (reading.close_at body.old.now) }
@@ -136,7 +136,7 @@ fn take_close(alloc: Global, body: &mut &[u8]) -> Result<Op, Unread>
     })
 }
 
-#[tactic(auto, unfolding(crate::specs::RecordReading::set_quota_at, crate::specs::Spelling::body_of))]
+#[tactic(auto, unfolding(crate::specs::RecordReading::set_quota_at, crate::specs::Spelling::body_bytes))]
 fn take_set_quota(alloc: Global, body: &mut &[u8]) -> Result<Op, Unread>
     ensures found { IfOk result (λ op. IsBody 14 op body.old.now body.new.now) }
     ensures exact { Gives result body.new.now (reading.set_quota_at body.old.now) }
@@ -150,7 +150,7 @@ fn take_set_quota(alloc: Global, body: &mut &[u8]) -> Result<Op, Unread>
     })
 }
 
-#[tactic(auto, unfolding(crate::specs::RecordReading::add_block_at, crate::specs::Spelling::body_of))]
+#[tactic(auto, unfolding(crate::specs::RecordReading::add_block_at, crate::specs::Spelling::body_bytes))]
 fn take_add_block(alloc: Global, body: &mut &[u8]) -> Result<Op, Unread>
     ensures found { IfOk result (λ op. IsBody 33 op body.old.now body.new.now) }
     ensures exact { Gives result body.new.now (reading.add_block_at body.old.now) }

@@ -2,7 +2,9 @@
 ghost use Rattle.std.specs.Prelude.{◌≡◌, ◌<◌, ◌^◌, ◌∷◌, ◌++◌, length, Some, None, IfOk, IfErr, IfSome};
 ghost use Rattle.std.specs.Int.{w16, w32, w64};
 ghost use Rattle.nn_base.specs.Paths.{IsPath, text_of};
-ghost use Rattle.nn_record.specs.Ops.{IsLong, IsMode, IsLabel};
+ghost use Rattle.nn_base.specs.Limits.{IsLong};
+ghost use Rattle.nn_base.specs.Labels.{IsLabel};
+ghost use Rattle.nn_record.specs.Ops.{IsMode};
 ghost use Rattle.nn_record.specs.Spelling.{u16, u32, u64, path, name, bound};
 ghost use Rattle.nn_record.specs.declared.unread.Unread.TheVariants.{NoRecord};
 ghost use Rattle.nn_record.specs.Reading as reading;

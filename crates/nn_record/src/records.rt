@@ -1,7 +1,8 @@
 // Writes a record.
 ghost use Rattle.std.specs.Prelude.{◌≡◌, ◌+◌, ◌^◌, ◌<◌, ◌≤◌, ◌++◌, vec_len, vec_capacity};
+ghost use Rattle.nn_base.specs.Limits.{most_record};
 ghost use Rattle.nn_record.specs.Ops.{opcode_of, IsOp, IsHeld};
-ghost use Rattle.nn_record.specs.Spelling.{body_of, unsealed, spelling, IsRecord};
+ghost use Rattle.nn_record.specs.Spelling.{body_bytes, unsealed, spelling, IsRecord};
 
 use crate::Op;
 use crate::opcodes::{
@@ -35,7 +36,7 @@ fn opcode_of(op: &Op) -> u8
 pub(crate) fn put_record(id: Txid, op: &Op, out: &mut Vec<u8>)
     requires id { 1 ≤ id }
     requires op { IsOp op.now }
-    requires room { vec_len out.old + 65536 ≤ vec_capacity out.old }
+    requires room { vec_len out.old + most_record ≤ vec_capacity out.old }
     ensures text { out.new.items ≡ out.old.items ++ spelling (record { id = id; op = op.now }) }
     ensures record { IsRecord (record { id = id; op = op.now }) }
     ensures capacity { vec_capacity out.old ≤ vec_capacity out.new }
@@ -51,7 +52,7 @@ fn put_unsealed(id: Txid, op: &Op, out: &mut Vec<u8>)
     requires room { vec_len out.old + 65000 ≤ vec_capacity out.old }
     ensures id { id < 2 ^ 63 }
     ensures held { IsHeld op.now }
-    ensures items { out.new.items ≡ out.old.items ++ unsealed (opcode_of op.now) id (body_of op.now) }
+    ensures items { out.new.items ≡ out.old.items ++ unsealed (opcode_of op.now) id (body_bytes op.now) }
     ensures len { vec_len out.new ≤ vec_len out.old + 65000 }
     ensures capacity { vec_capacity out.old ≤ vec_capacity out.new }
 {
@@ -65,12 +66,12 @@ fn put_unsealed(id: Txid, op: &Op, out: &mut Vec<u8>)
     overwrite(&len.to_be_bytes(), start + 1, out);
 }
 
-#[tactic(auto, unfolding(crate::specs::Spelling::body_of))]
+#[tactic(auto, unfolding(crate::specs::Spelling::body_bytes))]
 fn put_body(op: &Op, out: &mut Vec<u8>)
     requires op { IsOp op.now }
     requires room { vec_len out.old + 17000 ≤ vec_capacity out.old }
     ensures held { IsHeld op.now }
-    ensures items { out.new.items ≡ out.old.items ++ body_of op.now }
+    ensures items { out.new.items ≡ out.old.items ++ body_bytes op.now }
     ensures len { vec_len out.new ≤ vec_len out.old + 17000 }
     ensures capacity { vec_capacity out.old ≤ vec_capacity out.new }
 {

@@ -1,6 +1,7 @@
 // A transaction with its place in the journal.
 ghost use Rattle.std.specs.Prelude.{◌≡◌, ◌↔◌, ℕ, ◌+◌, ◌≤◌, ◌++◌, List, length, take, drop, Some, None, IfOk, IfSome, OnErr, vec_len, vec_capacity};
 ghost use Rattle.nn_record.specs.declared.transaction.Record.{Record};
+ghost use Rattle.nn_base.specs.Limits.{most_record};
 ghost use Rattle.nn_record.specs.Ops.{IsOp};
 ghost use Rattle.nn_record.specs.Spelling.{spelling, IsRecord, Begins, BeginsWithFrame, NoneBeginsAnother};
 
@@ -24,7 +25,7 @@ impl Record {
     pub fn put(&self, out: &mut Vec<u8>)
         requires id { 1 ≤ self.now.id }
         requires op { IsOp self.now.op }
-        requires room { vec_len out.old + 65536 ≤ vec_capacity out.old }
+        requires room { vec_len out.old + most_record ≤ vec_capacity out.old }
         ensures text { out.new.items ≡ out.old.items ++ spelling self.now }
         ensures record { IsRecord self.now }
         ensures capacity { vec_capacity out.old ≤ vec_capacity out.new }
@@ -36,7 +37,7 @@ impl Record {
     pub fn put_op(id: Txid, op: &Op, out: &mut Vec<u8>)
         requires id { 1 ≤ id }
         requires op { IsOp op.now }
-        requires room { vec_len out.old + 65536 ≤ vec_capacity out.old }
+        requires room { vec_len out.old + most_record ≤ vec_capacity out.old }
         ensures text { out.new.items ≡ out.old.items ++ spelling (record { id = id; op = op.now }) }
         ensures record { IsRecord (record { id = id; op = op.now }) }
         ensures capacity { vec_capacity out.old ≤ vec_capacity out.new }

@@ -1,7 +1,9 @@
 // Writes the fields of a record behind what is there. The caller has made room, so that no record is left half written.
 ghost use Rattle.std.specs.Prelude.{◌≡◌, ◌+◌, ◌<◌, ◌≤◌, ◌^◌, ◌∷◌, ◌++◌, length, take, drop, vec_len, vec_capacity};
 ghost use Rattle.nn_base.specs.Paths.{IsPath, text_of};
-ghost use Rattle.nn_record.specs.Ops.{IsOp, IsHeld, IsLabel};
+ghost use Rattle.nn_base.specs.Limits.{most_path};
+ghost use Rattle.nn_base.specs.Labels.{IsLabel};
+ghost use Rattle.nn_record.specs.Ops.{IsOp, IsHeld};
 ghost use Rattle.nn_record.specs.Spelling as spelling;
 
 use crate::Op;
@@ -84,7 +86,7 @@ pub(crate) fn put_name(label: &Label, out: &mut Vec<u8>)
 // A `/` before each name, and `/` alone for the root.
 #[tactic(auto, using(crate::proofs::PathLemmas::text_small, crate::proofs::PathLemmas::text_joined, crate::proofs::PathLemmas::joined_at, crate::proofs::PathLemmas::length_joined_at))]
 fn put_text(path: &Path, out: &mut Vec<u8>)
-    requires room { vec_len out.old + 8000 ≤ vec_capacity out.old }
+    requires room { vec_len out.old + most_path ≤ vec_capacity out.old }
     ensures path { IsPath path.now }
     ensures items { out.new.items ≡ out.old.items ++ text_of path.now }
     ensures len { vec_len out.new ≡ vec_len out.old + length (text_of path.now) }

@@ -1,10 +1,10 @@
 use Rattle.std.proofs.Common.{rules, refl}
-use Rattle.nn_record.specs.Spelling.{body_of}
+use Rattle.nn_record.specs.Spelling.{body_bytes}
 use Rattle.nn_record.proofs.FrameLemmas.{then}
 use Rattle.nn_record.proofs.bodies.take_add.Goals as goal
 
 pub returns-clause-found : goal.returns-clause-found
-unfolding body_of
+unfolding body_bytes
 returns-clause-found c = record {
   opcode = refl;
   op = search rules;

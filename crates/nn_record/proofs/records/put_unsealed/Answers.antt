@@ -1,12 +1,12 @@
 use Rattle.std.proofs.Common.{◌≡◌, ◌-◌, ◌++◌, length, ap, ◌∙◌, arith}
-use Rattle.nn_record.specs.Spelling.{u32, u64, body_of, unsealed}
+use Rattle.nn_record.specs.Spelling.{u32, u64, body_bytes, unsealed}
 use Rattle.nn_record.proofs.FormLemmas.{written_over}
 use Rattle.nn_record.proofs.records.put_unsealed.Goals as goal
 
 pub returns-clause-items : goal.returns-clause-items
 unfolding u32
 returns-clause-items c =
-    let body = body_of c.args.op.now in
+    let body = body_bytes c.args.op.now in
     let with_len = c.put_u32.ensures.items ∙ ap (λ t. t ++ u32 0) c.put.ensures.items in
     let with_id = c.put_u64.ensures.items ∙ ap (λ t. t ++ u64 c.id.inside.0) with_len in
     let whole = c.put_body.ensures.items ∙ ap (λ t. t ++ body) with_id in
