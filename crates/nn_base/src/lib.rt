@@ -11,8 +11,6 @@ pub mod limits;
 mod name;
 mod path;
 mod sub;
-#[cfg(test)]
-mod tests;
 mod word;
 
 pub use dir_set::DirSet;

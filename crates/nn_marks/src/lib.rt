@@ -10,8 +10,6 @@ pub mod laws;
 mod line_check;
 mod lines;
 mod seen;
-#[cfg(test)]
-mod tests;
 mod version;
 mod version_reading;
 mod version_writing;

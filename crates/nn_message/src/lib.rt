@@ -24,6 +24,3 @@ pub use reading::{
 pub use sections::{SectionBytes, cut_sections};
 pub use summary::{Lengths, put_end};
 pub use view::{DirView, InfoView, InodeView, KindView};
-
-#[cfg(test)]
-mod tests;

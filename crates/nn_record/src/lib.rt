@@ -9,8 +9,6 @@ mod op;
 mod opcodes;
 mod reading;
 mod records;
-#[cfg(test)]
-mod tests;
 mod transaction;
 mod unread;
 mod writing;

@@ -4,8 +4,6 @@
 
 mod header;
 mod run;
-#[cfg(test)]
-mod tests;
 
 pub use header::header_put;
 pub use run::{Run, intact_run};

@@ -13,6 +13,3 @@ pub use checksum::crc32;
 pub use fault::WireFault;
 pub use field::{Field, field_get};
 pub use varint::{varint_get, varint_put};
-
-#[cfg(test)]
-mod tests;

@@ -1,4 +1,5 @@
-use super::*;
+// Names numbered as an image numbers them.
+use nn_strtab::Names;
 use std::test::Fail;
 
 // Hadoop's superuser, its group and a third name, used as the inodes of an image would use them.

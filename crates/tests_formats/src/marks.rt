@@ -1,8 +1,8 @@
 // Texts that were written down by hand.
-use crate::{
+use nn_base::Txid;
+use nn_marks::{
     Key, VersionFault, md5_read, md5_text, seen_read, seen_text, version_read, version_text,
 };
-use nn_base::Txid;
 use std::test::Fail;
 
 const VERSION: &str =

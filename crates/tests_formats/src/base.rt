@@ -1,5 +1,5 @@
 // Names, words and paths with expected values that were written down by hand.
-use crate::{FileName, FirstTxid, NoMemory, Path, PathFault, Span, Txid, Word};
+use nn_base::{FileName, FirstTxid, Label, Name, NoMemory, Path, PathFault, Span, Txid, Word};
 use std::alloc::Global;
 use std::test::Fail;
 
@@ -184,5 +184,44 @@ fn each_fault_of_a_path_has_its_word(rt: HostRuntime) -> Result<(), Fail> {
         let told = format!(in rt.alloc(); "{fault}")?;
         assert!(rt; told.as_str() == word, "{word}");
     }
+    Ok(())
+}
+
+#[test]
+fn names_labels_and_paths_take_what_their_form_allows(rt: HostRuntime) -> Result<(), Fail> {
+    let alloc = rt.alloc();
+    let long = vec![in alloc; b'a'; 256]?;
+    assert_eq!(rt; long.len(), 256);
+    let names: [(&[u8], bool); 10] = [
+        (b"a", true),
+        (b"...", true),
+        (&long[..255], true),
+        (&long, false),
+        (b"", false),
+        (b".", false),
+        (b"..", false),
+        (b"a/b", false),
+        (b"a:b", false),
+        (b"a\0", false),
+    ];
+    for (bytes, is_name) in names {
+        assert_eq!(rt; Name::of(alloc, bytes)?.is_some(), is_name, "at {bytes:?}");
+    }
+    for (len, is_label) in [(0, false), (1, true), (32, true), (33, false)] {
+        assert!(rt; len <= long.len());
+        assert_eq!(rt; Label::of(&long[..len]).is_some(), is_label, "at {len}");
+    }
+
+    let mut names = Vec::new(alloc);
+    for bytes in [b"user", b"hdfs"] {
+        names.push(Name::of(alloc, bytes)?.ok_or("a name")?.copy(alloc)?)?;
+    }
+    let path = Path::of(names).ok_or("a path")?;
+    assert_eq!(rt; path.depth(), 2);
+    assert_eq!(rt; path.name(1).bytes(), b"hdfs".as_slice());
+    let parent = path.parent(alloc)?;
+    assert_eq!(rt; parent.depth(), 1);
+    assert_eq!(rt; parent.name(0).bytes(), b"user".as_slice());
+    assert_eq!(rt; Path::root(alloc).depth(), 0);
     Ok(())
 }

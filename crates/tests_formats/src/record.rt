@@ -1,6 +1,6 @@
 // Records against bytes that were spelled outside: their checksums are those of zlib.
-use super::*;
 use nn_base::{Label, Path, Txid};
+use nn_record::{Op, Record};
 use std::alloc::Global;
 use std::test::Fail;
 

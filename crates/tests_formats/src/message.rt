@@ -1,6 +1,11 @@
-use super::*;
+// Messages that were written down by hand, after HDFS's `fsimage.proto`.
 use nn_base::{Label, NoMemory, Txid};
+use nn_message::{
+    Attributes, Lengths, check_messages, delimit, put_end, put_inode, put_inodes, put_key,
+    put_ns_info, put_number, put_string, put_strings,
+};
 use nn_tree::{Block, Blocks, Counters, Kind, Node};
+use nn_wire::varint_put;
 use std::alloc::Global;
 use std::test::Fail;
 
@@ -15,6 +20,11 @@ const FILE: [u8; 45] = *b"\x06\x08\x82\x80\x01\x10\x02\
 \x22\x1a\x08\x03\x10\x00\x18\x01\x20\x02\x28\xa4\x03\
 \x32\x0b\x08\x81\x80\x80\x80\x04\x10\xe9\x07\x18\x01\
 \x38\x01";
+
+// The summary of an image of the empty namespace, and its length.
+const END: &[u8] = b"\x46\x08\x01\x10\xe9\x07\
+\x22\x0d\x0a\x07NS_INFO\x10\x0e\x18\x08\x22\x12\x0a\x0cSTRING_TABLE\x10\x1b\x18\x16\
+\x22\x0b\x0a\x05INODE\x10\x1b\x18\x31\x22\x0f\x0a\x09INODE_DIR\x10\x00\x18\x4c\x00\x00\x00\x47";
 
 // The node of that file, which belongs to the first two strings.
 fn open_file(alloc: Global, owner: Label, group: Label) -> Result<Node, NoMemory> {
@@ -98,4 +108,30 @@ fn a_file_is_read_and_none_with_a_fault_in_it(rt: HostRuntime) {
     }
     assert!(rt; check_messages(INFO, STRINGS, &FILE[..7], b""));
     assert!(rt; !check_messages(INFO, STRINGS, b"", b""));
+}
+
+#[test]
+fn an_entry_and_the_end_of_an_image_are_written_as_by_hand(rt: HostRuntime) -> Result<(), Fail> {
+    let mut out = Vec::new(rt.alloc());
+    put_number(1, 16_387, &mut out)?;
+    put_key(2, &mut out)?;
+    let at = out.len();
+    varint_put(16_393, &mut out)?;
+    assert!(rt; at <= out.len());
+    delimit(at, &mut out)?;
+    delimit(0, &mut out)?;
+    assert_eq!(rt;
+        out.as_slice(),
+        b"\x09\x08\x83\x80\x01\x12\x03\x89\x80\x01".as_slice()
+    );
+    out.clear();
+    let lengths = Lengths {
+        info: 14,
+        strings: 27,
+        inodes: 27,
+        directories: 0,
+    };
+    put_end(1001, &lengths, &mut out)?;
+    assert_eq!(rt; out.as_slice(), END);
+    Ok(())
 }

@@ -1,8 +1,8 @@
 // Segments against bytes that were spelled outside: their checksums are those of zlib.
 ghost use Rattle.std.specs.Prelude.{◌<◌, ◌≤◌};
 
-use super::*;
 use nn_base::Txid;
+use nn_segment::{Run, header_put, intact_run};
 use std::alloc::Global;
 use std::test::Fail;
 

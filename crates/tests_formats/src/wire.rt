@@ -1,4 +1,5 @@
-use super::*;
+// Checksums, varints and fields against spellings from outside.
+use nn_wire::{Field, WireFault, crc32, field_get, varint_get, varint_put};
 use std::test::Fail;
 
 // The values are those of zlib.
