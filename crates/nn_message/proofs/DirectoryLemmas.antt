@@ -2,11 +2,11 @@
 use Rattle.std.proofs.Common.{◌≡◌, ◌≢◌, ℕ, ◌^◌, ◌<◌, true, false, ◌&&◌, ltb, ◌++◌, Option, Some, None, refl, ap, subst, ◌∙◌, append_assoc, arith}
 use Rattle.std.specs.Prelude.{IfSome}
 use Rattle.std.proofs.lemmas.Bool.{lt-ltb, ltb-true}
+use Rattle.nn_base.specs.Limits.{IsLong}
 use Rattle.nn_base.specs.Paths.{Bytes}
 use Rattle.nn_wire.specs.Varint.{varint, spelled_within}
 use Rattle.nn_wire.specs.Field.{varint_field}
 use Rattle.nn_tree.specs.declared.node.Kind.TheVariants.{File, Dir}
-use Rattle.nn_message.specs.Messages.{IsLong}
 use Rattle.nn_message.specs.Spelling.{optional, access, directory, kind_number}
 use Rattle.nn_message.specs.Reading.{Spells, Anywhere, ◌then◌, has_key, maybe}
 use Rattle.nn_message.specs.MessageReading.{is_long, long_at, access_at, attributes_with, names_at, directory_at}

@@ -3,6 +3,7 @@ use Rattle.std.proofs.Common.{◌≡◌, ◌≢◌, ℕ, ◌+◌, ◌*◌, ◌^�
 use Rattle.std.specs.Prelude.{IfSome}
 use Rattle.std.specs.List.{flat_map, All}
 use Rattle.std.proofs.lemmas.Bool.{lt-ltb, ltb-true, le-leb, leb-true, eq-eqb, eqb-true}
+use Rattle.nn_base.specs.Limits.{most_blocks_of_file, most_replication, IsLong}
 use Rattle.nn_base.specs.Paths.{Bytes}
 use Rattle.nn_wire.specs.Varint.{varint, spelled_within}
 use Rattle.nn_wire.specs.Field.{varint_field, bytes_field}
@@ -12,7 +13,7 @@ use Rattle.nn_tree.specs.declared.node.Kind.TheVariants.{File, Dir}
 use Rattle.nn_tree.specs.Nodes.{quota_of}
 use Rattle.nn_tree.specs.Limits.{IsBlock, IsKind}
 use Rattle.nn_message.specs.declared.message.Attributes.{Attributes}
-use Rattle.nn_message.specs.Messages.{IsLong, IsVarintNumber, AreAttributes}
+use Rattle.nn_message.specs.Messages.{IsVarintNumber, AreAttributes}
 use Rattle.nn_message.specs.Spelling.{block, access, blocks_field, open_field, file, directory, kind_number}
 use Rattle.nn_message.specs.Reading.{Spells, Anywhere, ◌then◌, only, varint_field_at, has_key, maybe, many}
 use Rattle.nn_message.specs.MessageReading.{long_at, block_field_at, blocks_at, mode_at, access_at, attributes_with, open_at, replication_at, file_at}
@@ -24,15 +25,15 @@ use Rattle.nn_message.proofs.MessageLemmas.{both_is, is_both, Spells-tested, Spe
 -- ---- blocks
 
 abbrev AreBlocks : List Block → Type 0
-AreBlocks blocks = All IsBlock blocks × (length blocks ≤ 10000)
+AreBlocks blocks = All IsBlock blocks × (length blocks ≤ most_blocks_of_file)
 
 pub Spells-blocks : Spells blocks_at blocks_field AreBlocks (λ rest. has_key 50 rest ≡ false)
 unfolding blocks_at blocks_field
 Spells-blocks =
-    Spells-same (only (λ blocks. leb (length blocks) 10000) (many (has_key 50) block_field_at)) (flat_map (λ b. bytes_field 6 (block b))) (flat_map (λ b. bytes_field 6 (block b)))
-    (λ blocks. All IsBlock blocks × (leb (length blocks) 10000 ≡ true)) AreBlocks (λ rest. has_key 50 rest ≡ false) (λ rest. has_key 50 rest ≡ false)
-    (λ blocks h. refl) (λ blocks h. (h.0, leb-true (length blocks) 10000 h.1)) (λ blocks h. (h.0, le-leb (length blocks) 10000 h.1)) (λ rest h. h)
-    (Spells-only (λ (blocks : List Block). leb (length blocks) 10000) (many (has_key 50) block_field_at) (flat_map (λ b. bytes_field 6 (block b))) (All IsBlock) (λ rest. has_key 50 rest ≡ false)
+    Spells-same (only (λ blocks. leb (length blocks) most_blocks_of_file) (many (has_key 50) block_field_at)) (flat_map (λ b. bytes_field 6 (block b))) (flat_map (λ b. bytes_field 6 (block b)))
+    (λ blocks. All IsBlock blocks × (leb (length blocks) most_blocks_of_file ≡ true)) AreBlocks (λ rest. has_key 50 rest ≡ false) (λ rest. has_key 50 rest ≡ false)
+    (λ blocks h. refl) (λ blocks h. (h.0, leb-true (length blocks) most_blocks_of_file h.1)) (λ blocks h. (h.0, le-leb (length blocks) most_blocks_of_file h.1)) (λ rest h. h)
+    (Spells-only (λ (blocks : List Block). leb (length blocks) most_blocks_of_file) (many (has_key 50) block_field_at) (flat_map (λ b. bytes_field 6 (block b))) (All IsBlock) (λ rest. has_key 50 rest ≡ false)
     (Spells-many (has_key 50) block_field_at (λ b. bytes_field 6 (block b)) IsBlock Repeats-block))
 
 -- ---- owner, group and mode
@@ -120,13 +121,13 @@ body_text (Dir quota, a) = directory quota a
 -- ---- a file
 
 abbrev IsReplication : ℕ → Type 0
-IsReplication n = (0 < n) × (n ≤ 512)
+IsReplication n = (0 < n) × (n ≤ most_replication)
 
 Spells-replication : Spells replication_at (varint_field 1) IsReplication Anywhere
 unfolding replication_at
-Spells-replication = Spells-tested 1 (λ n. ltb 0 n && leb n 512) IsReplication (omega arith)
-    (λ n h. let p = both_is _ _ h in (ltb-true 0 n p.0, leb-true n 512 p.1))
-    (λ n h. (is_both _ _ (lt-ltb 0 n h.0) (le-leb n 512 h.1), omega arith))
+Spells-replication = Spells-tested 1 (λ n. ltb 0 n && leb n most_replication) IsReplication (omega arith)
+    (λ n h. let p = both_is _ _ h in (ltb-true 0 n p.0, leb-true n most_replication p.1))
+    (λ n h. (is_both _ _ (lt-ltb 0 n h.0) (le-leb n most_replication h.1), omega arith))
 
 abbrev FileParts : Type 0
 FileParts = ℕ × (ℕ × ((ℕ × (ℕ × ℕ)) × (List Block × Bool)))
@@ -176,7 +177,7 @@ file_is_body : (y : Body) → IsFileBody y → AreFileParts (file_parts_of y) �
 unfolding file_parts_of
 file_is_body (File replication is_open blocks, a) is h = record {
   kind = record {
-    replicated = λ r e. let same : replication ≡ r = cc in subst (λ n. (0 < n) × (n ≤ 512)) same h.0;
+    replicated = λ r e. let same : replication ≡ r = cc in subst (λ n. (0 < n) × (n ≤ most_replication)) same h.0;
     few = h.1.1.1.0.1;
     blocks = h.1.1.1.0.0;
     names = λ n e. absurd (let f : None ≡ Some n = e in cc);

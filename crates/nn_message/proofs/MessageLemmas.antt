@@ -1,13 +1,15 @@
 -- Each message that is spelled is read again, and nothing else is read as one.
 use Rattle.std.proofs.Common.{◌≡◌, ℕ, ◌+◌, ◌*◌, ◌^◌, ◌<◌, ◌≤◌, Bool, true, false, ◌&&◌, ltb, leb, ◌++◌, length, refl, append_assoc, arith, length-append}
 use Rattle.std.proofs.lemmas.Bool.{lt-ltb, ltb-true, le-leb, leb-true}
+use Rattle.nn_base.specs.Labels.{IsLabel}
+use Rattle.nn_base.specs.Limits.{most_label, most_nodes, most_block_length, IsLong}
 use Rattle.nn_base.specs.Paths.{Bytes}
 use Rattle.nn_wire.specs.Varint.{varint, spelled_within}
 use Rattle.nn_wire.specs.Field.{varint_field, bytes_field}
 use Rattle.nn_wire.proofs.SpellingLemmas.{varint_some}
 use Rattle.nn_tree.specs.declared.node.Block.{Block}
 use Rattle.nn_tree.specs.Limits.{IsBlock}
-use Rattle.nn_message.specs.Messages.{IsLong, IsVarintNumber, IsNamespaceId, NsInfo, IsNsInfo, Text, IsText, IsLabel}
+use Rattle.nn_message.specs.Messages.{IsVarintNumber, IsNamespaceId, NsInfo, IsNsInfo, Text, IsText}
 use Rattle.nn_message.specs.Spelling.{delimited, ns_info, strings, string, inodes, block}
 use Rattle.nn_message.specs.Reading.{Reader, Spells, Anywhere, only, number_at, varint_field_at, bytes_field_at, inside, has_key, is_some_byte}
 use Rattle.nn_message.specs.MessageReading.{is_long, long_at, namespace_at, ns_info_at, info_section_at, strings_at, label_at, string_at, count_at, inodes_at, block_length_at, block_at, block_field_at, child_at}
@@ -81,10 +83,10 @@ Spells-strings = Spells-varint_field 1 (omega arith)
 Spells-label : Spells label_at (bytes_field 2) IsLabel Anywhere
 unfolding label_at
 Spells-label =
-    Spells-same (only (λ text. leb 1 (length text) && leb (length text) 32) (bytes_field_at 2)) (bytes_field 2) (bytes_field 2) (λ text. Unit {0} × ((leb 1 (length text) && leb (length text) 32) ≡ true)) IsLabel Anywhere Anywhere
+    Spells-same (only (λ text. leb 1 (length text) && leb (length text) most_label) (bytes_field_at 2)) (bytes_field 2) (bytes_field 2) (λ text. Unit {0} × ((leb 1 (length text) && leb (length text) most_label) ≡ true)) IsLabel Anywhere Anywhere
     (λ text h. refl)
-    (λ text h. let p = both_is _ _ h.1 in (leb-true 1 (length text) p.0, leb-true (length text) 32 p.1))
-    (λ text h. (tt, is_both _ _ (le-leb 1 (length text) h.0) (le-leb (length text) 32 h.1)))
+    (λ text h. let p = both_is _ _ h.1 in (leb-true 1 (length text) p.0, leb-true (length text) most_label p.1))
+    (λ text h. (tt, is_both _ _ (le-leb 1 (length text) h.0) (le-leb (length text) most_label h.1)))
     (λ rest h. h)
     (Spells-only _ (bytes_field_at 2) (bytes_field 2) (λ content. Unit {0}) Anywhere (Spells-bytes_field 2 (omega arith)))
 
@@ -97,24 +99,24 @@ Spells-string =
 
 -- ---- what INODE begins with
 
-Spells-count : Spells count_at (varint_field 2) (λ n. n ≤ 1048576) Anywhere
+Spells-count : Spells count_at (varint_field 2) (λ n. n ≤ most_nodes) Anywhere
 unfolding count_at
-Spells-count = Spells-tested 2 (λ n. leb n 1048576) (λ n. n ≤ 1048576) (omega arith) (λ n h. leb-true n 1048576 h) (λ n h. (le-leb n 1048576 h, omega arith))
+Spells-count = Spells-tested 2 (λ n. leb n most_nodes) (λ n. n ≤ most_nodes) (omega arith) (λ n h. leb-true n most_nodes h) (λ n h. (le-leb n most_nodes h, omega arith))
 
 pub Spells-inodes : Spells inodes_at (λ x. inodes x.0 x.1) AreInodes Anywhere
 unfolding inodes_at inodes
-Spells-inodes = Spells-then (long_at 1) count_at (varint_field 1) (varint_field 2) IsLong (λ n. n ≤ 1048576) Anywhere Anywhere (Spells-long 1 (omega arith)) Spells-count (λ y rest h k. tt)
+Spells-inodes = Spells-then (long_at 1) count_at (varint_field 1) (varint_field 2) IsLong (λ n. n ≤ most_nodes) Anywhere Anywhere (Spells-long 1 (omega arith)) Spells-count (λ y rest h k. tt)
 
 -- ---- blocks
 
 abbrev IsLength : ℕ → Type 0
-IsLength n = (0 < n) × (n ≤ 2 ^ 40)
+IsLength n = (0 < n) × (n ≤ most_block_length)
 
 Spells-length : Spells block_length_at (varint_field 3) IsLength Anywhere
 unfolding block_length_at
-Spells-length = Spells-tested 3 (λ n. ltb 0 n && leb n (2 ^ 40)) IsLength (omega arith)
-    (λ n h. let p = both_is _ _ h in (ltb-true 0 n p.0, leb-true n (2 ^ 40) p.1))
-    (λ n h. (is_both _ _ (lt-ltb 0 n h.0) (le-leb n (2 ^ 40) h.1), omega arith))
+Spells-length = Spells-tested 3 (λ n. ltb 0 n && leb n most_block_length) IsLength (omega arith)
+    (λ n h. let p = both_is _ _ h in (ltb-true 0 n p.0, leb-true n most_block_length p.1))
+    (λ n h. (is_both _ _ (lt-ltb 0 n h.0) (le-leb n most_block_length h.1), omega arith))
 
 pub Spells-block : Spells block_at block IsBlock Anywhere
 unfolding block_at block

@@ -1,11 +1,12 @@
 -- A node that is spelled is read again, and nothing else is read as one.
 use Rattle.std.proofs.Common.{◌≡◌, ◌⊎◌, ℕ, ◌^◌, ◌<◌, Bool, true, false, cond, ◌||◌, eqb, [], ◌∷◌, ◌++◌, length, Some, None, refl, sym, ap, subst, ◌∙◌, inl, inr, append_assoc, arith}
 use Rattle.std.proofs.lemmas.Bool.{eq-eqb, eqb-true, ne_eqb, or_right}
+use Rattle.nn_base.specs.Limits.{IsLong}
 use Rattle.nn_base.specs.Paths.{Bytes, is_name}
 use Rattle.nn_wire.specs.Field.{varint_field, bytes_field}
 use Rattle.nn_tree.specs.declared.node.Kind.{Kind}
 use Rattle.nn_tree.specs.declared.node.Kind.TheVariants.{File, Dir}
-use Rattle.nn_message.specs.Messages.{IsLong, IsVarintNumber, Inode, IsInode}
+use Rattle.nn_message.specs.Messages.{IsVarintNumber, Inode, IsInode}
 use Rattle.nn_message.specs.Spelling.{kind_number, kind_field, inode}
 use Rattle.nn_message.specs.Reading.{Reader, Spells, Anywhere, ◌then◌, chosen, only, varint_field_at, bytes_field_at, field_with}
 use Rattle.nn_message.specs.MessageReading.{long_at, file_at, directory_at, kind_at, name_at, inode_at}

@@ -1,10 +1,11 @@
 -- Sections that are spelled are read again, and so the sections of no two contents are the same.
 use Rattle.std.proofs.Common.{◌≡◌, ℕ, ◌^◌, ◌<◌, false, List, ◌++◌, length, Some, refl, sym, ap, ◌∙◌, arith, length-append}
 use Rattle.std.specs.List.{flat_map, All}
+use Rattle.nn_base.specs.Limits.{IsLong}
 use Rattle.nn_base.specs.Paths.{Bytes}
 use Rattle.nn_wire.specs.Varint.{varint}
 use Rattle.nn_wire.specs.Field.{varint_field}
-use Rattle.nn_message.specs.Messages.{IsNsInfo, Text, IsText, Inode, IsInode, IsLong, IsVarintNumber, DirEntry, IsDirEntry, Content, IsContent}
+use Rattle.nn_message.specs.Messages.{IsNsInfo, Text, IsText, Inode, IsInode, IsVarintNumber, DirEntry, IsDirEntry, Content, IsContent}
 use Rattle.nn_message.specs.Spelling.{delimited, ns_info, strings, string, inodes, inode, dir_entry}
 use Rattle.nn_message.specs.Frame.{Sections, sections_of, body}
 use Rattle.nn_message.specs.Reading.{Spells, Anywhere, inside, field_with, is_some_byte, many, whole}

@@ -1,5 +1,6 @@
 -- How each message of an image is read, field by field: the grammar decides, and this says the same as what reading gives.
 use Rattle.std.specs.Prelude.{ℕ, ◌+◌, ◌^◌, Bool, ◌&&◌, ◌||◌, ◌==◌, nat_lt, nat_le, if◌then◌else◌, List, length, None, is_some}
+use Rattle.nn_base.specs.Limits.{most_label, most_nodes, most_blocks_of_file, most_block_length, most_replication}
 use Rattle.nn_base.specs.Paths.{Bytes, is_name}
 use Rattle.nn_tree.specs.declared.node.Block.{Block}
 use Rattle.nn_tree.specs.declared.node.Kind.{Kind}
@@ -28,7 +29,7 @@ unfoldable pub strings_at : Reader ℕ
 strings_at bytes = varint_field_at 1 bytes
 
 unfoldable pub label_at : Reader Bytes
-label_at bytes = only (λ text. nat_le 1 (length text) && nat_le (length text) 32) (bytes_field_at 2) bytes
+label_at bytes = only (λ text. nat_le 1 (length text) && nat_le (length text) most_label) (bytes_field_at 2) bytes
 
 unfoldable pub string_at : Reader Text
 string_at bytes = mapped (λ x. record { number = x.0; text = x.1 }) (varint_field_at 1 then label_at) bytes
@@ -36,13 +37,13 @@ string_at bytes = mapped (λ x. record { number = x.0; text = x.1 }) (varint_fie
 -- ---- INODE
 
 unfoldable pub count_at : Reader ℕ
-count_at bytes = only (λ n. nat_le n 1048576) (varint_field_at 2) bytes
+count_at bytes = only (λ n. nat_le n most_nodes) (varint_field_at 2) bytes
 
 unfoldable pub inodes_at : Reader (ℕ × ℕ)
 inodes_at bytes = (long_at 1 then count_at) bytes
 
 unfoldable pub block_length_at : Reader ℕ
-block_length_at bytes = only (λ n. nat_lt 0 n && nat_le n (2 ^ 40)) (varint_field_at 3) bytes
+block_length_at bytes = only (λ n. nat_lt 0 n && nat_le n most_block_length) (varint_field_at 3) bytes
 
 unfoldable pub block_at : Reader Block
 block_at bytes = mapped (λ x. record { id = x.0; stamp = x.1.0; length = x.1.1 }) (long_at 1 then long_at 2 then block_length_at) bytes
@@ -51,7 +52,7 @@ unfoldable pub block_field_at : Reader Block
 block_field_at bytes = field_with 6 block_at bytes
 
 unfoldable pub blocks_at : Reader (List Block)
-blocks_at bytes = only (λ blocks. nat_le (length blocks) 10000) (many (has_key 50) block_field_at) bytes
+blocks_at bytes = only (λ blocks. nat_le (length blocks) most_blocks_of_file) (many (has_key 50) block_field_at) bytes
 
 unfoldable pub mode_at : ℕ → Reader ℕ
 mode_at number bytes = only (λ n. nat_le n 1023) (varint_field_at number) bytes
@@ -68,7 +69,7 @@ unfoldable pub open_at : Reader Bool
 open_at bytes = mapped (λ mark. is_some mark) (maybe 56 (only (λ n. n == 1) (varint_field_at 7))) bytes
 
 unfoldable pub replication_at : Reader ℕ
-replication_at bytes = only (λ n. nat_lt 0 n && nat_le n 512) (varint_field_at 1) bytes
+replication_at bytes = only (λ n. nat_lt 0 n && nat_le n most_replication) (varint_field_at 1) bytes
 
 unfoldable pub file_at : Reader (Kind × Attributes)
 file_at bytes = mapped (λ x. (File x.0 x.1.1.1.1 x.1.1.1.0, attributes_with x.1.0 x.1.1.0)) (replication_at then long_at 2 then access_at 3 then blocks_at then open_at) bytes

@@ -1,14 +1,13 @@
 -- What the messages of an image hold, and the range of each number in them.
 use Rattle.std.specs.Prelude.{◌≡◌, ◌≢◌, ℕ, ◌^◌, ◌<◌, ◌≤◌, ◌⊎◌, true, List, [], length, All, Some}
+pub use Rattle.nn_base.specs.Labels.{IsLabel}
+use Rattle.nn_base.specs.Limits.{most_nodes}
+pub use Rattle.nn_base.specs.Limits.{IsLong}
 use Rattle.nn_base.specs.Paths.{Bytes, is_name}
 use Rattle.nn_tree.specs.declared.node.Kind.{Kind}
 use Rattle.nn_message.specs.declared.message.Attributes.{Attributes}
 use Rattle.nn_tree.specs.Nodes.{quota_of}
 use Rattle.nn_tree.specs.Limits.{IsKind}
-
--- ids, stamps, times and quotas are Hadoop's signed longs, and none is negative
-abbrev pub IsLong : ℕ → Type 0
-IsLong n = n < 2 ^ 63
 
 -- what a varint can spell
 abbrev pub IsVarintNumber : ℕ → Type 0
@@ -34,9 +33,6 @@ pub record IsNsInfo (info : NsInfo) : Type 0 where
 pub record Text : Type 0 where
   pub number : ℕ
   pub text : Bytes
-
-abbrev pub IsLabel : Bytes → Type 0
-IsLabel label = (1 ≤ length label) × (length label ≤ 32)
 
 pub record IsText (entry : Text) : Type 0 where
   pub number : IsVarintNumber entry.number
@@ -88,6 +84,6 @@ pub record IsContent (content : Content) : Type 0 where
   pub text_count : IsVarintNumber content.text_count
   pub texts : All IsText content.texts
   pub last_inode : IsLong content.last_inode
-  pub inode_count : content.inode_count ≤ 1048576
+  pub inode_count : content.inode_count ≤ most_nodes
   pub inodes : All IsInode content.inodes
   pub dir_entries : All IsDirEntry content.dir_entries

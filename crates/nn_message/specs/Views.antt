@@ -2,6 +2,7 @@
 use Rattle.std.specs.Prelude.{◌≡◌, ℕ, ◌≤◌, List}
 use Rattle.std.specs.Borrow.{Bor}
 use Rattle.std.specs.List.{flat_map}
+use Rattle.nn_base.specs.Limits.{most_nodes, IsLong}
 use Rattle.nn_wire.specs.Varint.{varint}
 use Rattle.nn_tree.specs.declared.node.Kind.{Kind}
 use Rattle.nn_tree.specs.declared.node.Kind.TheVariants.{File, Dir}
@@ -12,7 +13,7 @@ use Rattle.nn_message.specs.declared.view.KindView.{KindView}
 use Rattle.nn_message.specs.declared.view.KindView.TheVariants as seen
 use Rattle.nn_message.specs.declared.view.DirView.{DirView}
 use Rattle.nn_tree.specs.declared.node.Block.{Block}
-use Rattle.nn_message.specs.Messages.{NsInfo, Text, Inode, DirEntry, IsLong}
+use Rattle.nn_message.specs.Messages.{NsInfo, Text, Inode, DirEntry}
 use Rattle.nn_message.specs.Spelling.{blocks_field}
 
 abbrev pub info_of : InfoView → NsInfo
@@ -23,7 +24,7 @@ IsTextView view entry = (view.0 ≡ entry.number) × (view.1.now ≡ entry.text)
 
 -- what INODE begins with: the last id, and how many nodes
 abbrev pub AreInodes : ℕ × ℕ → Type 0
-AreInodes x = IsLong x.0 × (x.1 ≤ 1048576)
+AreInodes x = IsLong x.0 × (x.1 ≤ most_nodes)
 
 abbrev pub IsAccess : ℕ × ℕ × ℕ → ℕ × (ℕ × ℕ) → Type 0
 IsAccess view access = (view.0 ≡ access.0) × (view.1 ≡ access.1.0) × (view.2 ≡ access.1.1)

@@ -11,6 +11,7 @@ ghost use Rattle.nn_message.specs.Views as views;
 use crate::message::Attributes;
 use crate::reading::fields::{is_next, take_bytes, take_long, take_number};
 use crate::view::KindView;
+use nn_base::limits::{MOST_BLOCK_LENGTH, MOST_BLOCKS_OF_FILE, MOST_REPLICATION};
 use nn_tree::Block;
 
 /// The key of a block in a file: a field of bytes, of number 6.
@@ -19,15 +20,8 @@ const BLOCK: u8 = 50;
 /// The key of the mark that a file is open: a number, of field 7.
 const OPEN: u8 = 56;
 
-const MOST_BLOCKS: usize = 10_000;
-
-/// The most bytes of a block.
-const LONGEST: u64 = 1 << 40;
-
 /// The most that a mode may be: the sticky bit and nine permissions.
 const GREATEST_MODE: u64 = 0o1777;
-
-const MOST_REPLICAS: u64 = 512;
 
 #[tactic(auto, unfolding(crate::specs::MessageReading::block_length_at))]
 fn take_length(rest: &mut &[u8]) -> Option<u64>
@@ -37,7 +31,7 @@ fn take_length(rest: &mut &[u8]) -> Option<u64>
     if length == 0 {
         return None;
     }
-    if length > LONGEST {
+    if length > MOST_BLOCK_LENGTH {
         return None;
     }
     Some(length)
@@ -85,7 +79,7 @@ fn take_blocks<'a>(rest: &mut &'a [u8]) -> Option<&'a [u8]>
         next_block(&mut left)?;
         count += 1;
     }
-    if count > MOST_BLOCKS {
+    if count > MOST_BLOCKS_OF_FILE {
         return None;
     }
     *rest = left;
@@ -138,7 +132,7 @@ fn take_replication(rest: &mut &[u8]) -> Option<u16>
     if replication == 0 {
         return None;
     }
-    if replication > MOST_REPLICAS {
+    if replication > u64::from(MOST_REPLICATION) {
         return None;
     }
     Some(replication as u16)

@@ -1,6 +1,7 @@
 // Reads the messages of INODE: how many nodes there are, and each node.
 ghost use Rattle.std.specs.Prelude.{◌≡◌, ℕ, ◌≤◌, Some, None, IfSome, IfNone};
-ghost use Rattle.nn_message.specs.Messages.{IsLong, IsInode};
+ghost use Rattle.nn_base.specs.Limits.{IsLong};
+ghost use Rattle.nn_message.specs.Messages.{IsInode};
 ghost use Rattle.nn_message.specs.Spelling as spelling;
 ghost use Rattle.nn_message.specs.Reading as reading;
 ghost use Rattle.nn_message.specs.MessageReading as messages;
@@ -12,8 +13,7 @@ use crate::reading::fields::{take_bytes, take_delimited, take_long, take_number}
 use crate::reading::file::read_file;
 use crate::view::{InodeView, KindView};
 use nn_base::Name;
-
-const MOST_INODES: u64 = 1_048_576;
+use nn_base::limits::MOST_NODES;
 
 /// The numbers of the two kinds of node, and the keys of their fields, which hold bytes.
 const FILE: u64 = 1;
@@ -29,7 +29,7 @@ fn take_count(rest: &mut &[u8]) -> Option<u64>
     ensures { reading.Gives result rest.new.now (messages.count_at rest.old.now) }
 {
     let count = take_number(2, rest)?;
-    if count > MOST_INODES {
+    if count > MOST_NODES {
         return None;
     }
     Some(count)

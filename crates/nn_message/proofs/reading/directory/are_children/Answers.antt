@@ -1,6 +1,6 @@
 use Rattle.std.proofs.Common.{◌≡◌}
+use Rattle.nn_base.specs.Limits.{IsLong}
 use Rattle.nn_wire.specs.Varint.{varint}
-use Rattle.nn_message.specs.Messages.{IsLong}
 use Rattle.nn_message.specs.MessageReading.{child_at, children_at}
 use Rattle.nn_message.proofs.TakesLemmas.{Shows-Gives}
 use Rattle.nn_message.proofs.LoopLemmas.{loop_next, loop_smaller, loop_fail, loop_end}

@@ -1,6 +1,7 @@
 use Rattle.std.proofs.Common.{◌≡◌, length, leb, false, true, refl, sym, ◌∙◌, arith}
 use Rattle.std.specs.List.{flat_map}
 use Rattle.std.proofs.lemmas.Bool.{le-leb, lt-leb}
+use Rattle.nn_base.specs.Limits.{most_blocks_of_file}
 use Rattle.nn_wire.specs.Field.{bytes_field}
 use Rattle.nn_tree.specs.declared.node.Block.{Block}
 use Rattle.nn_tree.specs.Limits.{IsBlock}
@@ -35,11 +36,11 @@ returns-in_err-next_block c =
     let none = Along-fail (has_key 50) block_field_at bytes c.fields.left.now c.fields.count c.fields.invariant.along (sym c.is_next.ensures ∙ c.fields-test.true) c.in_err-next_block.ensures in
     Shows-none IsBlocksView c.from_residual.result bytes (blocks_at bytes) (cc) (rw none refl)
 
-pub returns-then-count-gt-MOST_BLOCKS : goal.returns-then-count-gt-MOST_BLOCKS
+pub returns-then-count-gt-MOST_BLOCKS_OF_FILE : goal.returns-then-count-gt-MOST_BLOCKS_OF_FILE
 unfolding blocks_at
-returns-then-count-gt-MOST_BLOCKS c =
+returns-then-count-gt-MOST_BLOCKS_OF_FILE c =
     let end = Along-end (has_key 50) block_field_at c.args.rest.now.now c.fields.left.now c.fields.count c.fields.invariant.along (sym c.is_next.ensures ∙ c.fields-test.false) in
-    let many : leb (length end.0) 10000 ≡ false = lt-leb (length end.0) 10000 (omega (arith, end.1)) in
+    let many : leb (length end.0) most_blocks_of_file ≡ false = lt-leb (length end.0) most_blocks_of_file (omega (arith, end.1)) in
     rw (end.2, many) refl
 
 pub returns : goal.returns
@@ -48,6 +49,6 @@ returns c =
     let bytes = c.args.rest.now.now in
     let t = λ (b : Block). bytes_field 6 (block b) in
     let end = Along-end (has_key 50) block_field_at bytes c.fields.left.now c.fields.count c.fields.invariant.along (sym c.is_next.ensures ∙ c.fields-test.false) in
-    let few : leb (length end.0) 10000 ≡ true = le-leb (length end.0) 10000 (omega (arith, end.1)) in
+    let few : leb (length end.0) most_blocks_of_file ≡ true = le-leb (length end.0) most_blocks_of_file (omega (arith, end.1)) in
     let text = (Spells-many (has_key 50) block_field_at t IsBlock Repeats-block).exact bytes (end.0, c.fields.left.now) end.2 in
     (end.0, front_is bytes (flat_map t end.0) c.fields.left.now text.1, rw (end.2, few) refl)
