@@ -6,6 +6,7 @@
 ghost use Rattle.std.specs.Prelude.{◌≡◌, ◌≤◌, ◌^◌, true, [], IfSome};
 ghost use Rattle.nn_tree.specs.Imaged.{IsImaged};
 
+use nn_base::limits::LAYOUT;
 use nn_base::{NoMemory, Path};
 use nn_image::{Loaded, load, save};
 use nn_tree::{PlainTree, Spot, Tree, Walk, next_below};
@@ -13,8 +14,6 @@ use std::alloc::Global;
 use std::process::ExitCode;
 use std::time::{CpuClock, Duration};
 use std::{env, fs, io};
-
-const LAYOUT: i32 = -1001;
 
 /// The most nodes that a tree has.
 const NODES: u64 = 1_048_576;

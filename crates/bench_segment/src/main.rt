@@ -6,6 +6,7 @@
 ghost use Rattle.std.specs.Prelude.{◌≤◌, vec_capacity, IfSome};
 ghost use Rattle.nn_record.specs.Ops.{IsOp};
 
+use nn_base::limits::LAYOUT;
 use nn_base::{Label, Path, Txid};
 use nn_record::{Op, Record};
 use nn_segment::{header_put, intact_run};
@@ -13,8 +14,6 @@ use std::alloc::Global;
 use std::process::ExitCode;
 use std::time::{CpuClock, Duration};
 use std::{env, io};
-
-const LAYOUT: i32 = -1001;
 
 // The record of `mkdir /user/hdfs/part-00001`. None stands for want of memory.
 fn mkdir(alloc: Global) -> Option<Op>
