@@ -9,6 +9,8 @@ use Rattle.std.proofs.lemmas.List.Concat.{flat_map-append}
 use Rattle.std.proofs.lemmas.List.Elements.{All-push}
 use Rattle.std.proofs.lemmas.List.Sums.{fold-append, sum_by-cons}
 use Rattle.std.proofs.lemmas.Option.{slice_get_within, slice_get-get_or}
+use Rattle.nn_base.specs.Labels.{IsLabel}
+use Rattle.nn_base.specs.Limits.{most_nodes}
 use Rattle.nn_base.specs.Paths.{Bytes, Names}
 use Rattle.nn_strtab.specs.Numbers.{with_use, first_uses}
 use Rattle.nn_tree.specs.declared.node.Node.{Node}
@@ -17,7 +19,6 @@ use Rattle.nn_tree.specs.Namespace.{Nodes}
 use Rattle.nn_tree.specs.Limits.{IsWithinLimits}
 use Rattle.nn_tree.specs.Below.{entries_below, visited, count_before, IsNextBelow, IsBelow}
 use Rattle.nn_tree.proofs.BelowLemmas.{take_one_more, entry_at, entry_of, none_visited}
-use Rattle.nn_message.specs.Messages.{IsLabel}
 use Rattle.nn_image.specs.Image.{labels, string_table}
 use Rattle.nn_image.proofs.ListsLemmas.{filter_all}
 
@@ -51,7 +52,7 @@ count_all : (es : List (Names × Node)) → sum_by (λ (e : Names × Node). 1) e
 count_all [] = refl
 count_all (e ∷ es) = let a = sum_by-cons (λ (e : Names × Node). 1) e es in let b = count_all es in omega (arith, a, b)
 
-pub few_nodes : (m : Nodes) → IsWithinLimits m → length (entries m) ≤ 1048576
+pub few_nodes : (m : Nodes) → IsWithinLimits m → length (entries m) ≤ most_nodes
 few_nodes m limits = let a = count_all (entries m) in let b = limits.nodes in omega (arith, a, b)
 
 -- below the root are all entries

@@ -16,7 +16,7 @@ use Rattle.nn_image.specs.Image.{string_table, inode_of, child_ids, dir_entries_
 use Rattle.nn_tree.specs.Imaged.{IsImaged, AreGiven}
 use Rattle.nn_image.specs.Assembly.{Partial, table_of, waiting, is_table, all_blocks, are_all_given, is_whole, namespace_of, finished, add_inodes, add_all, assemble}
 use Rattle.nn_image.proofs.CollectLemmas.{all_entries}
-use Rattle.nn_image.proofs.ModestLemmas.{length-numbered}
+use Rattle.nn_image.proofs.StageLemmas.{length-numbered}
 use Rattle.nn_image.proofs.LevelsLemmas.{Waits, waits_or_not, ArePlaces, waiting_places, first_place}
 use Rattle.nn_image.proofs.PartialLemmas.{some_dir}
 use Rattle.nn_image.proofs.ListedLemmas.{to_come, waiting_to_come, listed}

@@ -6,12 +6,14 @@ use Rattle.std.specs.Str.{bytes_eq}
 use Rattle.std.specs.FinMap.{get, entries}
 use Rattle.std.proofs.lemmas.List.Elements.{All-nil, All-cons, All-append, All-head, All-tail, All-map, All-filter}
 use Rattle.std.proofs.lemmas.List.Sums.{prefix_len-le-length}
+use Rattle.nn_base.specs.Labels.{IsLabel}
+use Rattle.nn_base.specs.Limits.{IsLong}
 use Rattle.nn_base.specs.Paths.{Bytes, Names, is_name}
 use Rattle.nn_strtab.specs.Numbers.{number_in, with_use}
 use Rattle.nn_tree.specs.declared.node.Node.{Node}
 use Rattle.nn_tree.specs.Namespace.{Namespace, Nodes}
 use Rattle.nn_tree.specs.Spots.{last_name}
-use Rattle.nn_message.specs.Messages.{IsLong, IsLabel, IsNamespaceId, IsText, IsInode, IsDirEntry, IsContent}
+use Rattle.nn_message.specs.Messages.{IsNamespaceId, IsText, IsInode, IsDirEntry, IsContent}
 use Rattle.nn_image.specs.Image.{labels, string_table, numbered_from, attributes_of, inode_of, is_child, children, child_ids, entry_of, dir_entries_of, content_with, content_of}
 use Rattle.nn_tree.specs.Imaged.{IsImaged}
 use Rattle.nn_image.specs.Imaged.{AreLabelled}

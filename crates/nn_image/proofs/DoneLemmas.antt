@@ -9,6 +9,7 @@ use Rattle.std.proofs.lemmas.List.Elements.{All-head, All-tail}
 use Rattle.nn_base.specs.Paths.{Bytes, Names, path_cmp}
 use Rattle.nn_tree.specs.declared.node.Node.{Node}
 use Rattle.nn_tree.specs.Spots.{last_name}
+use Rattle.nn_tree.proofs.SoundLemmas.{last_name_push}
 use Rattle.nn_message.specs.Messages.{Inode, IsInode, DirEntry}
 use Rattle.nn_image.specs.Assembly.{Partial, Place, node_of, with_node, add_inode, add_inodes, add_root, add_all}
 use Rattle.nn_image.proofs.LaterLemmas.{entries_behind}
@@ -17,11 +18,6 @@ use Rattle.nn_image.proofs.PlacedLemmas.{adds, starts}
 use Rattle.nn_image.proofs.PartialLemmas.{IsPartial, begins, goes_on, root_before}
 use Rattle.nn_image.proofs.EntriesLemmas.{lists, AreListed, lists_on, lists_root}
 use Rattle.nn_image.proofs.OwnedLemmas.{owns_so, AreRead, none_read, one_read}
-
-pub last_push : (p : Names) (name : Bytes) → last_name (p ++ name ∷ []) ≡ name
-last_push [] name = refl
-last_push (x ∷ []) name = refl
-last_push (x ∷ y ∷ p) name = last_push (y ∷ p) name
 
 pub record IsDone (table : List Bytes) (dir_entries : List DirEntry) (h : Partial) (done : List Inode) : Type 0 where
   pub partial : IsPartial h
@@ -52,7 +48,7 @@ module _ (table : List Bytes) (once : IsDistinct bytes_eq table) (dir_entries : 
       let owns = owns_so table once h.used inode.attributes step.owned before.read.few step.uses in
       let path : step.place.path ≡ step.at.level.path ++ inode.name ∷ [] = ap (λ (p : Place). p.path) step.at.is in
       let lists = lists table h g inode before.partial in_range step in
-      let read = one_read table h.used (entries h.nodes) done inode step.owned step.place.path before.read (ap last_name path ∙ last_push step.at.level.path inode.name) owns in
+      let read = one_read table h.used (entries h.nodes) done inode step.owned step.place.path before.read (ap last_name path ∙ last_name_push step.at.level.path inode.name) owns in
       let used : step.owned.used ≡ g.used = ap (λ (g : Partial). g.used) (sym step.is) in
       record {
         partial = goes_on table h g inode before.partial in_range step;

@@ -1,16 +1,25 @@
 -- The end of the assembly: what the tests say of the content.
-use Rattle.std.proofs.Common.{◌≡◌, ◌≢◌, Bool, true, false, ◌&&◌, ◌==◌, [], length, map, refl, ap, ◌∙◌}
+use Rattle.std.proofs.Common.{◌≡◌, ◌≢◌, ℕ, Bool, true, false, ◌&&◌, ◌==◌, [], length, map, refl, sym, ap, subst, ◌∙◌, arith}
 use Rattle.std.specs.Prelude.{Option, Some, None, nat_le}
 use Rattle.std.specs.List.{list_all}
 use Rattle.std.proofs.lemmas.Bool.{eqb-true, eq-eqb, and_parts, and_from}
-use Rattle.std.proofs.lemmas.List.{nil_from_length}
+use Rattle.std.specs.FinMap.{entries}
+use Rattle.std.proofs.lemmas.List.{nil_from_length, length-map}
+use Rattle.std.proofs.lemmas.List.Concat.{length-flat_map}
+use Rattle.nn_base.specs.Paths.{Names}
 use Rattle.nn_tree.specs.declared.node.Block.{Block}
 use Rattle.nn_tree.specs.declared.node.Counters.{Counters}
-use Rattle.nn_message.specs.Messages.{Content, Inode}
-use Rattle.nn_image.specs.Assembly.{Partial, waiting, table_of, is_table, are_given, is_whole, are_all_given, add_all, assemble}
+use Rattle.nn_tree.specs.declared.node.Node.{Node}
+use Rattle.nn_tree.specs.Nodes.{blocks_of}
+use Rattle.nn_tree.specs.Namespace.{Namespace}
+use Rattle.nn_tree.specs.Limits.{IsWithinLimits}
+use Rattle.nn_message.specs.Messages.{Content, IsContent, Inode}
+use Rattle.nn_image.specs.Image.{string_table, inode_of, content_with, content_of}
+use Rattle.nn_image.specs.Assembly.{Partial, waiting, is_table, are_given, is_whole, are_all_given, assemble}
 use Rattle.nn_image.specs.Building.{blocks_among, are_table}
 use Rattle.nn_image.specs.Faults.{IsCounted}
-use Rattle.nn_image.proofs.AddingLemmas.{no_table, not_added, not_whole}
+use Rattle.nn_image.proofs.StageLemmas.{length-numbered}
+use Rattle.nn_image.proofs.SoundAssembly.{same_blocks, assemble_sound}
 use Rattle.nn_image.proofs.StringTableLemmas.{same_table}
 
 pub is_the_table : (content : Content) (b : Bool) → IsCounted content → are_table content.texts ≡ b → is_table content ≡ b
@@ -34,18 +43,25 @@ is_not_whole content h not = is_not _ (λ whole.
 
 -- ---- the counts
 
-tests_counted : (content : Content) (h : Partial) → is_table content ≡ true → is_whole content h ≡ true → IsCounted content
-unfolding is_table is_whole
-tests_counted content h tabled whole = (eqb-true _ _ (and_parts _ _ (and_parts _ _ tabled).0).0, eqb-true _ _ (and_parts _ _ whole).1)
+-- What is saved has as many strings and nodes as it says, and no more blocks than a namespace has.
+saved_counted : (ns : Namespace) (id namespace : ℕ) → IsWithinLimits ns.nodes → IsCounted (content_of ns id namespace)
+unfolding content_of content_with
+saved_counted ns id namespace limits =
+    let table = string_table ns.nodes in
+    let same = ap length (same_blocks table (entries ns.nodes)) in
+    let sum = length-flat_map (λ (e : Names × Node). blocks_of e.1.kind) (entries ns.nodes) in
+    let most = limits.blocks in
+    (sym (length-numbered 1 table), sym (length-map (entries ns.nodes) (inode_of table)), omega (arith, same, sum, most))
 
--- Where there are more or fewer than is said, no namespace has this content.
-pub uncounted : (content : Content) → ¬ IsCounted content → assemble content ≡ None
-uncounted content not = by (is_table content) refl (add_all (table_of content) content.dir_entries content.inodes) refl
+-- Where there are more or fewer, no namespace has this content.
+pub uncounted : (content : Content) → IsContent content → ¬ IsCounted content → assemble content ≡ None
+uncounted content is not = by (assemble content) refl
   where
-    by : (b : Bool) → is_table content ≡ b → (o : Option Partial) → add_all (table_of content) content.dir_entries content.inodes ≡ o → assemble content ≡ None
-    by false tabled o added = no_table content tabled
-    by true tabled None added = not_added content tabled added
-    by true tabled (Some h) added = not_whole content h tabled added (is_not _ (λ whole. not (tests_counted content h tabled whole)))
+    by : (o : Option Namespace) → assemble content ≡ o → assemble content ≡ None
+    by None none = none
+    by (Some ns) assembled =
+        let sound = assemble_sound content ns is assembled in
+        absurd (not (subst IsCounted (sym sound.2) (saved_counted ns content.info.txid content.info.namespace sound.0.limits)))
 
 -- ---- the ids and stamps
 

@@ -4,12 +4,13 @@ use Rattle.std.specs.Prelude.{All, Some, option_and_then}
 use Rattle.std.specs.List.{flat_map}
 use Rattle.std.proofs.lemmas.Option.{none-some, same_Some, option_and_then_some}
 use Rattle.std.proofs.lemmas.List.Elements.{All-head, All-tail}
+use Rattle.nn_base.specs.Limits.{IsLong}
 use Rattle.nn_base.specs.Paths.{Bytes, Names}
 use Rattle.nn_tree.specs.declared.spot.Spot.{Spot}
 use Rattle.nn_tree.specs.declared.node.Kind.{Kind}
 use Rattle.nn_tree.specs.Nodes.{is_dir}
 use Rattle.nn_image.specs.declared.open_dir.OpenDir.{OpenDir}
-use Rattle.nn_message.specs.Messages.{Inode, DirEntry, IsInode, IsLong}
+use Rattle.nn_message.specs.Messages.{Inode, DirEntry, IsInode}
 use Rattle.nn_image.specs.Assembly.{Level, Partial, opened, add_inode, add_inodes, add_root, add_all}
 use Rattle.nn_image.specs.Building.{IsOpen}
 use Rattle.nn_image.proofs.PlacedLemmas.{adds, starts}

@@ -1,4 +1,3 @@
-pub mod EmptyImage
 pub mod ListsLemmas
 pub mod StageLemmas
 pub mod StepLemmas
@@ -40,7 +39,6 @@ pub mod CountLemmas
 pub mod NextNodeLemmas
 pub mod HalfLemmas
 pub mod PutNodeLemmas
-pub mod ImageOfLemmas
 pub mod FirstNodeLemmas
 pub mod StringTableLemmas
 pub mod EndLemmas

@@ -1,5 +1,6 @@
 -- From the sections of an image to its messages, and from those to a namespace: what each step of loading finds.
 use Rattle.std.proofs.Common.{◌≡◌, ◌≢◌, ℕ, ◌^◌, ◌≤◌, length, None, Some, sym, ap, subst, ◌∙◌, inr, arith}
+use Rattle.nn_base.specs.Limits.{most_image}
 use Rattle.nn_base.specs.Paths.{Bytes}
 use Rattle.nn_tree.specs.Namespace.{Namespace}
 use Rattle.nn_image.specs.declared.fault.ImageFault.TheVariants.{Field, Tree}
@@ -19,7 +20,7 @@ use Rattle.nn_image.proofs.SoundAssembly.{assemble_sound}
 
 -- ---- messages
 
-pub strings_few : (bytes : Bytes) (layout : ℕ) (s : Sections) → HasSections bytes layout s → length s.strings ≤ 2 ^ 30
+pub strings_few : (bytes : Bytes) (layout : ℕ) (s : Sections) → HasSections bytes layout s → length s.strings ≤ most_image
 unfolding lengths_of
 strings_few bytes layout s has = omega (arith, lengths_few s (body_few bytes (body s) (summary_message (summary_of layout s)) has.1))
 

@@ -5,6 +5,7 @@ use Rattle.std.specs.List.{flat_map}
 use Rattle.std.specs.FinMap.{entries}
 use Rattle.std.proofs.lemmas.List.Concat.{length-flat_map}
 use Rattle.std.proofs.lemmas.List.Sums.{sum_by-le}
+use Rattle.nn_base.specs.Labels.{IsLabel}
 use Rattle.nn_base.specs.Paths.{Bytes, Names, is_name}
 use Rattle.nn_base.proofs.PathsLemmas.{name_is_short}
 use Rattle.nn_wire.specs.Varint.{varint}
@@ -17,13 +18,14 @@ use Rattle.nn_tree.specs.Nodes.{blocks_of}
 use Rattle.nn_tree.specs.Namespace.{Namespace, Nodes, block_count}
 use Rattle.nn_tree.specs.Spots.{last_name}
 use Rattle.nn_message.specs.declared.message.Attributes.{Attributes}
-use Rattle.nn_message.specs.Messages.{IsLabel, Text, Inode}
+use Rattle.nn_message.specs.Messages.{Text, Inode}
 use Rattle.nn_message.specs.Spelling.{optional, ns_info, strings, string, inodes, block, access, blocks_field, open_field, file, directory, kind_number, kind_field, inode, dir_entry, delimited}
 use Rattle.nn_message.specs.Frame.{Sections, sections_of}
 use Rattle.nn_image.specs.Image.{numbered_from, inode_of, child_ids, entry_of, dir_entries_of, content_with}
 use Rattle.nn_tree.specs.Imaged.{IsImaged}
 use Rattle.nn_image.specs.Saving.{Target, whole, entry_text, AreModest}
 use Rattle.nn_image.proofs.ListsLemmas.{flat_map-map, flat_map-flat_map}
+use Rattle.nn_image.proofs.StageLemmas.{length-numbered}
 use Rattle.nn_message.proofs.SummaryLemmas.{varint_few, varint_field_few, bytes_field_few, delimited_few}
 use Rattle.nn_image.proofs.CollectLemmas.{few_nodes, entry_there}
 use Rattle.nn_image.proofs.ContentLemmas.{last_is_name}
@@ -49,11 +51,6 @@ unfolding numbered_from
 texts_few n [] all k d lt = absurd (omega arith)
 texts_few n (x ∷ table) all zero d lt = text_few (record { number = n; text = x }) (all 0 x (omega arith))
 texts_few n (x ∷ table) all (suc k) d lt = texts_few (suc n) table (λ k d lt. all (suc k) d (omega arith)) k d (omega arith)
-
-pub length-numbered : (n : ℕ) (table : List Bytes) → length (numbered_from n table) ≡ length table
-unfolding numbered_from
-length-numbered n [] = refl
-length-numbered n (x ∷ table) = ap suc (length-numbered (suc n) table)
 
 -- ---- nodes
 

@@ -7,6 +7,7 @@ use Rattle.std.specs.declared.cmp.Ordering.TheVariants.{Less, Equal, Greater}
 use Rattle.std.specs.FinMap.{get, insert, empty, get-insert, get-empty}
 use Rattle.std.proofs.lemmas.Option.{none-some, same_Some}
 use Rattle.std.proofs.lemmas.List.Elements.{All-push, All-nil}
+use Rattle.nn_base.specs.Limits.{most_levels, most_path}
 use Rattle.nn_base.specs.Paths.{Bytes, Names, path_cmp, is_name, joined, IsPath}
 use Rattle.nn_tree.specs.declared.node.Node.{Node}
 use Rattle.nn_tree.specs.Namespace.{Nodes, IsNamespace, IsRoot, is_dir_at}
@@ -79,7 +80,7 @@ module _ (m : Nodes) (p : Names) (name : Bytes) (node : Node) (free : get m (p +
     ]);
   }
 
-pub child_path : (p : Names) (name : Bytes) → IsPath p → is_name name ≡ true → length (p ++ name ∷ []) ≤ 1000 → length (joined (p ++ name ∷ [])) ≤ 8000 → IsPath (p ++ name ∷ [])
+pub child_path : (p : Names) (name : Bytes) → IsPath p → is_name name ≡ true → length (p ++ name ∷ []) ≤ most_levels → length (joined (p ++ name ∷ [])) ≤ most_path → IsPath (p ++ name ∷ [])
 child_path p name h named levels size = record { named = All-push (λ name. is_name name ≡ true) p name h.named named; levels = levels; size = size }
 
 -- ---- the root

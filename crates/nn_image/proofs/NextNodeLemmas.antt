@@ -1,6 +1,7 @@
 -- The next node has its place, or the assembly ends there.
 use Rattle.std.proofs.Common.{◌≡◌, ◌≢◌, ℕ, ◌+◌, ◌<◌, ◌≤◌, ◌⊎◌, inl, inr, Bool, true, false, cond, List, [], ◌∷◌, ◌++◌, length, refl, sym, ap, ◌∙◌, arith, length-append}
 use Rattle.std.specs.Prelude.{MatchOption, Option, Some, None, option_and_then}
+use Rattle.nn_base.specs.Limits.{most_levels, most_path, most_nodes, most_blocks}
 use Rattle.nn_base.specs.Paths.{Bytes, Names, is_name, joined}
 use Rattle.nn_base.proofs.PathsLemmas.{joined_push}
 use Rattle.nn_tree.specs.declared.spot.Spot.{Spot}
@@ -74,11 +75,11 @@ pub child_levels : (p : Names) (name : Bytes) → length (p ++ name ∷ []) ≡ 
 child_levels p name = omega (arith, length-append p (name ∷ []))
 
 pub path_too_long : (m : Nodes) (level : Level) (name : Bytes) (kind : Kind) (names text : ℕ) → names ≡ length level.path → text ≡ length (joined level.path)
-    → (1000 < names + 1) ⊎ (8000 < text + (1 + length name)) → HasRoom m (level.path ++ name ∷ []) kind → ⊥
+    → (most_levels < names + 1) ⊎ (most_path < text + (1 + length name)) → HasRoom m (level.path ++ name ∷ []) kind → ⊥
 path_too_long m level name kind names text is_names is_text (inl many) room = let most = room.levels in omega (arith, child_levels level.path name, most, many)
 path_too_long m level name kind names text is_names is_text (inr long) room = let most = room.size in omega (arith, joined_push level.path name, most, long)
 
 pub too_many : (m : Nodes) (path : Names) (kind : Kind) (inodes blocks : ℕ) → inodes ≡ node_count m → blocks ≡ block_count m
-    → (1048576 ≤ inodes) ⊎ (8388608 < blocks + length (blocks_of kind)) → HasRoom m path kind → ⊥
+    → (most_nodes ≤ inodes) ⊎ (most_blocks < blocks + length (blocks_of kind)) → HasRoom m path kind → ⊥
 too_many m path kind inodes blocks is_inodes is_blocks (inl many) room = let most = room.nodes in omega (arith, most, many)
 too_many m path kind inodes blocks is_inodes is_blocks (inr many) room = let most = room.blocks in omega (arith, most, many)

@@ -7,12 +7,13 @@ use Rattle.std.proofs.lemmas.List.Elements.{All-head, All-tail}
 use Rattle.std.proofs.lemmas.Option.{none-some}
 use Rattle.std.proofs.lemmas.Bool.{eq-eqb}
 use Rattle.std.proofs.lemmas.Bool.Decides.{nat_tests}
+use Rattle.nn_base.specs.Limits.{IsLong}
 use Rattle.nn_base.specs.Paths.{Bytes, Names, is_name, name_cmp}
 use Rattle.nn_wire.specs.Varint.{varint, Begins}
 use Rattle.nn_wire.proofs.SpellingLemmas.{varint_some, same_varint}
 use Rattle.nn_tree.specs.declared.spot.Spot.{Spot}
 use Rattle.nn_image.specs.declared.open_dir.OpenDir.{OpenDir}
-use Rattle.nn_message.specs.Messages.{IsLong, Inode}
+use Rattle.nn_message.specs.Messages.{Inode}
 use Rattle.nn_image.specs.Assembly.{Level, Place, waiting, placed, is_next}
 use Rattle.nn_image.specs.Building.{IsOpen, AreOpen}
 

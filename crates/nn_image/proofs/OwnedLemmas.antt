@@ -9,6 +9,7 @@ use Rattle.std.proofs.lemmas.List.{map_push}
 use Rattle.std.proofs.lemmas.List.Concat.{flat_map-append}
 use Rattle.std.proofs.lemmas.List.Elements.{All-push, All-nil}
 use Rattle.std.proofs.lemmas.List.Sums.{fold-append}
+use Rattle.nn_base.specs.Labels.{IsLabel}
 use Rattle.nn_base.specs.Paths.{Bytes, Names}
 use Rattle.nn_strtab.specs.Numbers.{with_use, first_uses}
 use Rattle.nn_tree.specs.declared.node.Node.{Node}
@@ -17,7 +18,7 @@ use Rattle.nn_tree.specs.Namespace.{Nodes}
 use Rattle.nn_tree.proofs.LinksLemmas.{paths_total, paths_exact}
 use Rattle.nn_tree.proofs.SortedLemmas.{found_at}
 use Rattle.nn_message.specs.declared.message.Attributes.{Attributes}
-use Rattle.nn_message.specs.Messages.{Inode, IsLabel}
+use Rattle.nn_message.specs.Messages.{Inode}
 use Rattle.nn_image.specs.Image.{labels, attributes_of, inode_of}
 use Rattle.nn_image.specs.Imaged.{AreLabelled}
 use Rattle.nn_image.specs.Assembly.{Owned, use_name, use_group, use_names, node_of}

@@ -5,6 +5,7 @@ use Rattle.std.specs.Ordering.{is_lt}
 use Rattle.std.specs.declared.cmp.Ordering.TheVariants.{Less}
 use Rattle.std.proofs.lemmas.Bool.{and_parts, and_from, eqb-true, eq-eqb, leb-true, ltb-true, le-leb, lt-ltb}
 use Rattle.std.proofs.lemmas.Option.{none-some, cond_some, option_and_then_some}
+use Rattle.nn_base.specs.Limits.{most_levels, most_path, most_nodes, most_blocks}
 use Rattle.nn_base.specs.Paths.{Bytes, Names, is_name, name_cmp, joined}
 use Rattle.nn_tree.specs.declared.node.Kind.{Kind}
 use Rattle.nn_tree.specs.Nodes.{is_dir, blocks_of}
@@ -66,10 +67,10 @@ placed_back level outer inode rest children named behind =
 -- ---- room
 
 pub record HasRoom (m : Nodes) (path : Names) (kind : Kind) : Type 0 where
-  pub levels : length path ≤ 1000
-  pub size : length (joined path) ≤ 8000
-  pub nodes : node_count m < 1048576
-  pub blocks : block_count m + length (blocks_of kind) ≤ 8388608
+  pub levels : length path ≤ most_levels
+  pub size : length (joined path) ≤ most_path
+  pub nodes : node_count m < most_nodes
+  pub blocks : block_count m + length (blocks_of kind) ≤ most_blocks
 
 pub room_so : (m : Nodes) (path : Names) (kind : Kind) → has_room m path kind ≡ true → HasRoom m path kind
 unfolding has_room

@@ -1,6 +1,7 @@
 -- A map of one node, and its changes.
 use Rattle.std.proofs.Common.{◌≡◌, ◌≤◌, [], length, Some, None, sym, ap, subst, ◌∙◌, arith}
 use Rattle.std.specs.FinMap.{insert, empty, get-empty}
+use Rattle.nn_base.specs.Limits.{most_blocks}
 use Rattle.nn_base.specs.Paths.{Names, path_cmp}
 use Rattle.nn_tree.specs.declared.node.Node.{Node}
 use Rattle.nn_tree.specs.declared.node.Change.{Change}
@@ -22,7 +23,7 @@ alone_changed node f =
     ap (λ o. elim o as (λ _. Nodes) [ None ↦ alone node | Some x ↦ insert (alone node) [] (f x) ]) (at_itself empty [] node)
     ∙ insert_over paths_total paths_exact empty [] node (f node)
 
-pub alone_within : (node : Node) → IsNode node → length (blocks_of node.kind) ≤ 8388608 → IsWithinLimits (alone node)
+pub alone_within : (node : Node) → IsNode node → length (blocks_of node.kind) ≤ most_blocks → IsWithinLimits (alone node)
 alone_within node ok few = limits_insert empty [] node none_within (get-empty path_cmp []) ok
     (let e = total-empty {X = Node} path_cmp (λ _ _. 1) in omega arith)
     (let e = total-empty {X = Node} path_cmp (λ _ node. length (blocks_of node.kind)) in omega arith)

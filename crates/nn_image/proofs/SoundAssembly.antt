@@ -7,12 +7,13 @@ use Rattle.std.proofs.lemmas.Bool.{and_parts, eqb-true}
 use Rattle.std.proofs.lemmas.Option.{none-some, cond_some, option_and_then_some}
 use Rattle.std.proofs.lemmas.List.{take_all, length-map}
 use Rattle.std.proofs.lemmas.List.Elements.{All-map}
+use Rattle.nn_base.specs.Labels.{IsLabel}
 use Rattle.nn_base.specs.Paths.{Bytes, Names}
 use Rattle.nn_tree.specs.declared.node.Block.{Block}
 use Rattle.nn_tree.specs.declared.node.Node.{Node}
 use Rattle.nn_tree.specs.Nodes.{blocks_of}
 use Rattle.nn_tree.specs.Namespace.{Namespace}
-use Rattle.nn_message.specs.Messages.{Content, IsContent, Inode, IsLabel}
+use Rattle.nn_message.specs.Messages.{Content, IsContent, Inode}
 use Rattle.nn_image.specs.Image.{string_table, inode_of, child_ids, entry_of, dir_entries_of, numbered_from, content_with, content_of}
 use Rattle.nn_tree.specs.Imaged.{IsImaged, AreGiven, blocks_of_files}
 use Rattle.nn_image.specs.Imaged.{AreLabelled}

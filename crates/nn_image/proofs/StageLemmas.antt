@@ -27,7 +27,7 @@ numbered_at n (suc k) (x ∷ table) text at =
     let e : suc n + k ≡ n + suc k = omega arith in
     numbered_at (suc n) k table text at ∙ ap (λ number. (let entry : Text = record { number = number; text = text } in entry) ∷ drop (suc k) (numbered_from (suc n) table)) e
 
-length-numbered : (n : ℕ) (table : List Bytes) → length (numbered_from n table) ≡ length table
+pub length-numbered : (n : ℕ) (table : List Bytes) → length (numbered_from n table) ≡ length table
 unfolding numbered_from
 length-numbered n [] = refl
 length-numbered n (x ∷ table) = ap suc (length-numbered (suc n) table)

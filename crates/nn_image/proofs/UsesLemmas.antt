@@ -10,6 +10,7 @@ use Rattle.std.proofs.lemmas.Option.{none-some, same_Some}
 use Rattle.std.proofs.lemmas.List.Elements.{All-contains}
 use Rattle.std.proofs.lemmas.List.Folds.{list_any-append}
 use Rattle.std.proofs.lemmas.Map.Views.{Contains-from_any}
+use Rattle.nn_base.specs.Labels.{IsLabel}
 use Rattle.nn_base.specs.Paths.{Bytes, Names}
 use Rattle.nn_strtab.specs.Numbers.{with_use}
 use Rattle.nn_tree.specs.declared.node.Node.{Node}
@@ -18,7 +19,6 @@ use Rattle.nn_tree.specs.Below.{count_before}
 use Rattle.nn_tree.proofs.BelowLemmas.{entry_of}
 use Rattle.nn_image.specs.Image.{labels, string_table}
 use Rattle.nn_image.specs.Imaged.{AreLabelled}
-use Rattle.nn_message.specs.Messages.{IsLabel}
 use Rattle.nn_image.proofs.ListsLemmas.{filter_all}
 
 has : List Bytes → Bytes → Bool

@@ -4,6 +4,7 @@ use Rattle.std.specs.Ordering.{is_lt}
 use Rattle.std.specs.List.{flat_map, list_all}
 use Rattle.std.specs.Set.{distinct_count}
 use Rattle.std.specs.FinMap.{empty, insert}
+use Rattle.nn_base.specs.Limits.{most_levels, most_path, most_nodes, most_blocks}
 use Rattle.nn_base.specs.Paths.{Bytes, Names, is_name, name_cmp, joined}
 use Rattle.nn_strtab.specs.Numbers.{name_at}
 use Rattle.nn_tree.specs.declared.node.Block.{Block}
@@ -100,7 +101,7 @@ placed (level ∷ outer) inode = elim level.children [
 
 -- whether the limits leave room for a node
 unfoldable pub has_room : Nodes → Names → Kind → Bool
-has_room m path kind = nat_le (length path) 1000 && nat_le (length (joined path)) 8000 && nat_lt (node_count m) 1048576 && nat_le (block_count m + length (blocks_of kind)) 8388608
+has_room m path kind = nat_le (length path) most_levels && nat_le (length (joined path)) most_path && nat_lt (node_count m) most_nodes && nat_le (block_count m + length (blocks_of kind)) most_blocks
 
 -- ---- what is in a directory
 

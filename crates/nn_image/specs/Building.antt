@@ -2,6 +2,7 @@
 use Rattle.std.specs.Prelude.{◌≡◌, ◌&&◌, bytes_eq, ℕ, Bool, true, nat_le, List, [], ◌∷◌, ◌++◌, map, length, All, Option, Some, None}
 use Rattle.std.specs.Borrow.{Bor}
 use Rattle.std.specs.List.{flat_map, list_all}
+use Rattle.nn_base.specs.Limits.{IsLong}
 use Rattle.nn_base.specs.Paths.{Bytes, Names, joined}
 use Rattle.nn_wire.specs.Varint.{varint}
 use Rattle.nn_tree.specs.declared.node.Block.{Block}
@@ -13,7 +14,7 @@ use Rattle.nn_image.specs.declared.noted.Noted.{Noted}
 use Rattle.nn_image.specs.declared.half.Half.{Half}
 use Rattle.nn_image.specs.declared.assemble.Heads.{Heads}
 use Rattle.nn_image.specs.declared.prepared.Prepared.{Prepared}
-use Rattle.nn_message.specs.Messages.{Content, Text, Inode, DirEntry, IsLong, IsInode, IsDirEntry}
+use Rattle.nn_message.specs.Messages.{Content, Text, Inode, DirEntry, IsInode, IsDirEntry}
 use Rattle.nn_message.specs.Spelling.{delimited, string, inode, dir_entry}
 use Rattle.nn_image.specs.Assembly.{Owned, node_of, use_names, Level, Partial, waiting, placed, has_room, Listing, add_all, are_numbered, are_distinct}
 

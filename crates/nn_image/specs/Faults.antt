@@ -1,17 +1,19 @@
 -- What is wrong with bytes that are no image: the first fault that applies, from the frame inward.
 use Rattle.std.specs.Prelude.{◌≡◌, ◌≢◌, ℕ, ◌^◌, ◌≤◌, ◌⊎◌, true, length, take, None, is_some}
+use Rattle.nn_base.specs.Limits.{most_image, most_blocks}
 use Rattle.nn_base.specs.Paths.{Bytes}
 use Rattle.nn_tree.specs.Namespace.{Namespace}
 use Rattle.nn_image.specs.declared.fault.ImageFault.{ImageFault}
 use Rattle.nn_image.specs.declared.fault.ImageFault.TheVariants.{TooLarge, Magic, Short, Field, Codec, Layout, Section, Tree, Memory}
 use Rattle.nn_message.specs.Messages.{Content, IsContent}
 use Rattle.nn_message.specs.Frame.{magic, Sections, sections_of, body, Summary, IsSummary, summary_message, summary_of, framed}
+use Rattle.nn_image.specs.Assembly.{all_blocks}
 use Rattle.nn_image.specs.Imaged.{IsImage}
 
 -- ---- how far bytes are an image: each word holds of less than the one before it
 
 abbrev pub IsSmall : Bytes → Type 0
-IsSmall bytes = length bytes ≤ 2 ^ 30
+IsSmall bytes = length bytes ≤ most_image
 
 abbrev pub IsMarked : Bytes → Type 0
 IsMarked bytes = IsSmall bytes × (take (length magic) bytes ≡ magic)
@@ -34,9 +36,9 @@ HasSections bytes layout sections = HasSummary bytes (body sections) (summary_of
 abbrev pub HasContent : Bytes → ℕ → Content → Type 0
 HasContent bytes layout content = IsContent content × HasSections bytes layout (sections_of content)
 
--- as many strings and nodes as is said
+-- As many strings and nodes as is said, and no more blocks than a namespace has. That the nodes are no more is in the range of their count.
 abbrev pub IsCounted : Content → Type 0
-IsCounted content = (content.text_count ≡ length content.texts) × (content.inode_count ≡ length content.inodes)
+IsCounted content = (content.text_count ≡ length content.texts) × (content.inode_count ≡ length content.inodes) × (length (all_blocks content) ≤ most_blocks)
 
 -- ---- faults of what one message shows by itself
 
@@ -48,7 +50,7 @@ HasNoContent bytes layout = (sections : Sections) × HasSections bytes layout se
 
 -- ---- the first fault of bytes that are read as an image of a layout
 
--- `Tree` is what only several messages show together. Memory is asked for only where each message is whole and each count is true.
+-- `Tree` is what only several messages show together. Memory is asked for only where each message is whole, each count is true, and no count is above its limit.
 abbrev pub IsFault : ImageFault → Bytes → ℕ → Type 0
 IsFault TooLarge bytes layout = ¬ IsSmall bytes
 IsFault Magic bytes layout = IsSmall bytes × ¬ IsMarked bytes

@@ -1,11 +1,13 @@
 -- What the image of a namespace is.
 use Rattle.std.specs.Prelude.{◌≡◌, ℕ, Some}
 use Rattle.std.specs.FinMap.{get}
+use Rattle.nn_base.specs.Labels.{IsLabel}
+use Rattle.nn_base.specs.Limits.{IsLong}
 use Rattle.nn_base.specs.Paths.{Bytes, Names}
 use Rattle.nn_tree.specs.declared.node.Node.{Node}
 use Rattle.nn_tree.specs.Namespace.{Namespace, Nodes}
 use Rattle.nn_tree.specs.Imaged.{IsImaged}
-use Rattle.nn_message.specs.Messages.{IsLong, IsLabel, IsNamespaceId, IsVarintNumber}
+use Rattle.nn_message.specs.Messages.{IsNamespaceId, IsVarintNumber}
 use Rattle.nn_image.specs.Image.{image_of}
 
 -- Owners and groups have 1 to 32 bytes, which their type keeps.

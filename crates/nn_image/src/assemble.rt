@@ -1,17 +1,19 @@
 // The tree of an image's messages.
 ghost use Rattle.std.specs.Prelude.{◌≡◌, ◌≢◌, ◌==◌, ◌&&◌, ◌↔◌, ◌≤◌, ◌^◌, ℕ, Bool, true, false, List, [], All, Err, IfOk, Some, None, IfSome, MatchOption, IsTrue, length, map, nat_le};
 ghost use Rattle.std.specs.List.{list_all};
+ghost use Rattle.nn_base.specs.Labels.{IsLabel};
+ghost use Rattle.nn_base.specs.Limits.{most_image};
 ghost use Rattle.nn_base.specs.Paths.{Bytes};
 ghost use Rattle.nn_tree.specs.declared.spot.Spot.{Spot};
 ghost use Rattle.nn_tree.specs.Limits.{IsCounters};
 ghost use Rattle.nn_image.specs.declared.unmade.Unmade.TheVariants as unmade;
-ghost use Rattle.nn_message.specs.Messages.{Content, Inode, DirEntry, IsContent, IsInode, IsDirEntry, IsLabel};
+ghost use Rattle.nn_message.specs.Messages.{Content, Inode, DirEntry, IsContent, IsInode, IsDirEntry};
 ghost use Rattle.nn_message.specs.Frame.{sections_of};
 ghost use Rattle.nn_image.specs.Assembly.{Level, Partial, waiting, are_given, add_all, assemble};
 ghost use Rattle.nn_image.specs.Building.{AreOpen, entries_text, inodes_text, blocks_among, IsNoted, IsHalf, AreHeads};
 ghost use Rattle.nn_image.specs.Faults.{IsCounted};
 
-use crate::count::count_messages;
+use crate::count::{count_messages, have_few_blocks};
 use crate::given;
 use crate::half::Half;
 use crate::nodes::{add_first, add_nodes};
@@ -121,14 +123,17 @@ fn heads_of<'a>(info: &[u8], strings: &'a [u8], inodes: &'a [u8]) -> Option<Head
     })
 }
 
-/// Whether there are as many strings and nodes as is said.
+/// Whether there are as many strings and nodes as is said, and no more blocks than a namespace has.
 fn is_counted(heads: &Heads<'_>) -> bool
-    ensures { (content : Content) → AreHeads heads.now content → IsTrue result ↔ IsCounted content }
+    ensures { (content : Content) → IsContent content → AreHeads heads.now content → IsTrue result ↔ IsCounted content }
 {
     if count_messages(heads.texts) != heads.strings {
         return false;
     }
-    count_messages(heads.inodes) == heads.nodes
+    if count_messages(heads.inodes) != heads.nodes {
+        return false;
+    }
+    have_few_blocks(heads.inodes)
 }
 
 /// The tree of all messages, where the counts are theirs. An `Err` of `Tree` says that there is none.
@@ -137,7 +142,7 @@ fn tree_of<'a, T: Tree>(
     heads: &Heads<'a>,
     directories: &'a [u8],
 ) -> Result<T, Unmade>
-    requires few { length heads.now.texts.now ≤ 2 ^ 30 }
+    requires few { length heads.now.texts.now ≤ most_image }
     requires listed { ((entries : List DirEntry) × All IsDirEntry entries × (directories.now ≡ entries_text entries)) }
     requires ranges { IsCounters heads.now.last }
     ensures ok { (content : Content) → IsContent content → AreHeads heads.now content → directories.now ≡ entries_text content.dir_entries → IsCounted content →
@@ -164,8 +169,8 @@ fn tree_of<'a, T: Tree>(
 }
 
 /// The tree of the messages of an image, section by section: the one namespace that has them. An `Err` of `Tree` says
-/// that there is none. One of `Memory` comes only where the counts are those of the messages. Each message is known to be
-/// whole before, so that only how they go together is asked here.
+/// that there is none. One of `Memory` comes only where the counts are those of the messages and no limit is exceeded by
+/// them. Each message is known to be whole before, so that only how they go together is asked here.
 pub(crate) fn assemble_tree<'a, T: Tree>(
     alloc: Global,
     info: &'a [u8],
@@ -173,7 +178,7 @@ pub(crate) fn assemble_tree<'a, T: Tree>(
     inodes: &'a [u8],
     directories: &'a [u8],
 ) -> Result<T, Unmade>
-    requires few { length strings.now ≤ 2 ^ 30 }
+    requires few { length strings.now ≤ most_image }
     requires whole { ((content : Content) × IsContent content × (sections_of content ≡
         record { info = info.now; strings = strings.now; inodes = inodes.now; directories = directories.now })) }
     ensures ok { (content : Content) → IsContent content → sections_of content ≡
@@ -186,7 +191,7 @@ pub(crate) fn assemble_tree<'a, T: Tree>(
     let Some(heads) = heads_of(info, strings, inodes) else {
         return Err(Unmade::Tree);
     };
-    // A count may be damaged, so it is looked at before any memory is asked for.
+    // A count may be damaged, or too great, so it is looked at before any memory is asked for.
     if is_counted(&heads) {
         tree_of(alloc, &heads, directories)
     } else {

@@ -1,9 +1,19 @@
-// How many messages stand one after the other.
-ghost use Rattle.std.specs.Prelude.{◌≡◌, ◌<◌, ◌++◌, List, length, IfSome, MatchOption};
+// How many messages stand one after the other, and whether there are too many blocks in them.
+ghost use Rattle.std.specs.Prelude.{◌≡◌, ◌<◌, ◌≤◌, ◌↔◌, ◌++◌, List, All, length, IsTrue, IfSome, MatchOption};
 ghost use Rattle.std.specs.List.{flat_map};
+ghost use Rattle.nn_base.specs.Limits.{most_blocks};
 ghost use Rattle.nn_base.specs.Paths.{Bytes};
-ghost use Rattle.nn_message.specs.Spelling.{delimited};
+ghost use Rattle.nn_tree.specs.declared.node.Block.{Block};
+ghost use Rattle.nn_tree.specs.declared.node.Kind.{Kind};
+ghost use Rattle.nn_tree.specs.Limits.{IsBlock};
+ghost use Rattle.nn_tree.specs.Nodes as nodes;
+ghost use Rattle.nn_message.specs.Messages.{Inode, IsInode};
+ghost use Rattle.nn_message.specs.Spelling.{delimited, blocks_field};
+ghost use Rattle.nn_message.specs.Views.{IsKindView};
+ghost use Rattle.nn_image.specs.Building.{inodes_text, blocks_among};
 
+use nn_base::limits::MOST_BLOCKS;
+use nn_message::{KindView, take_block, take_inode};
 use nn_wire::varint_get;
 
 /// What stands behind the first message.
@@ -31,4 +41,42 @@ pub(crate) fn count_messages(bytes: &[u8]) -> u64
         count += 1;
     }
     count
+}
+
+/// How many blocks these fields spell.
+fn count_blocks(bytes: &[u8]) -> u64
+    ensures { (blocks : List Block) → All IsBlock blocks → bytes.now ≡ blocks_field blocks → result ≡ length blocks }
+{
+    let mut rest = bytes;
+    let mut count = 0;
+    'fields: while let Some(_) = take_block(&mut rest) {
+        count += 1;
+    }
+    count
+}
+
+fn blocks_of(kind: &KindView<'_>) -> u64
+    ensures { (k : Kind) → All IsBlock (nodes.blocks_of k) → IsKindView kind.now k → result ≡ length (nodes.blocks_of k) }
+{
+    match kind {
+        KindView::File { blocks, .. } => count_blocks(blocks),
+        KindView::Dir { .. } => 0,
+    }
+}
+
+/// Whether these nodes have together no more blocks than a namespace. The messages are read once more, since no memory is
+/// asked for.
+pub(crate) fn have_few_blocks(inodes: &[u8]) -> bool
+    ensures { (all : List Inode) → All IsInode all → inodes.now ≡ inodes_text all → IsTrue result ↔ length (blocks_among all) ≤ most_blocks }
+{
+    let mut rest = inodes;
+    let mut room = MOST_BLOCKS;
+    'nodes: while let Some(view) = take_inode(&mut rest) {
+        let blocks = blocks_of(&view.kind);
+        if blocks > room {
+            return false;
+        }
+        room -= blocks;
+    }
+    true
 }

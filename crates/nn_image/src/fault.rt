@@ -31,8 +31,8 @@ pub enum ImageFault {
     /// The messages together are no namespace, or not one in the one order.
     #[error("tree")]
     Tree,
-    /// Memory ran out. Each message is whole, and as many strings and nodes are there as is said; nothing more is said
-    /// of the image.
+    /// Memory ran out. Each message is whole, as many strings and nodes are there as is said, and neither nodes nor blocks
+    /// are too many; nothing more is said of the image.
     #[error("memory")]
     Memory,
 }

@@ -4,10 +4,8 @@ ghost use Rattle.nn_image.specs.declared.fault.ImageFault.TheVariants.{Tree, Mem
 ghost use Rattle.nn_image.specs.Faults.{IsFramed, IsFault};
 
 use crate::fault::ImageFault;
+use nn_base::limits::MOST_IMAGE;
 use nn_message::{Framed, unended};
-
-/// The most bytes that an image has.
-const GREATEST: usize = 1 << 30;
 
 /// The frame, or the first fault of it.
 #[tactic(auto, unfolding(nn_message::specs::Frame::framed))]
@@ -16,7 +14,7 @@ pub(crate) fn frame_in(bytes: &[u8]) -> Result<Framed, ImageFault>
     ensures err { IfErr result (λ fault. (layout : ℕ) → IsFault fault bytes.now layout) }
     ensures early { IfErr result (λ fault. (fault ≢ Tree) × (fault ≢ Memory)) }
 {
-    if bytes.len() > GREATEST {
+    if bytes.len() > MOST_IMAGE {
         return Err(ImageFault::TooLarge);
     }
     let Some(behind) = bytes.strip_prefix(b"HDFSIMG1") else {

@@ -1,10 +1,11 @@
 // The tree of an image as far as it is built, a node at a time.
 ghost use Rattle.std.specs.Prelude.{◌≡◌, ◌≢◌, Bool, true, List, ◌∷◌, [], ◌++◌, length, All, Err, OnOk, Some, None};
+ghost use Rattle.nn_base.specs.Labels.{IsLabel};
 ghost use Rattle.nn_base.specs.Paths.{Bytes};
 ghost use Rattle.nn_tree.specs.declared.spot.Spot.{Spot};
 ghost use Rattle.nn_tree.specs.Nodes as nodes;
 ghost use Rattle.nn_image.specs.declared.unmade.Unmade.TheVariants as unmade;
-ghost use Rattle.nn_message.specs.Messages.{Inode, DirEntry, IsInode, IsDirEntry, IsLabel};
+ghost use Rattle.nn_message.specs.Messages.{Inode, DirEntry, IsInode, IsDirEntry};
 ghost use Rattle.nn_message.specs.Views.{IsInodeView};
 ghost use Rattle.nn_image.specs.Assembly.{Level, Partial, listing, opened, add_inode};
 ghost use Rattle.nn_image.specs.Building.{IsOpen, AreOpen, IsListed, entries_text, IsPrepared, IsMade, IsHalf};

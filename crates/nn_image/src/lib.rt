@@ -30,6 +30,3 @@ mod unmade;
 pub use fault::ImageFault;
 pub use loading::{Loaded, load};
 pub use saver::{Saver, save};
-
-#[cfg(test)]
-mod tests;

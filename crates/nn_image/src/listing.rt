@@ -2,9 +2,10 @@
 ghost use Rattle.std.specs.Prelude.{◌≡◌, List, All, Some};
 ghost use Rattle.std.specs.List.{flat_map};
 ghost use Rattle.std.specs.Borrow.{Bor};
+ghost use Rattle.nn_base.specs.Limits.{IsLong};
 ghost use Rattle.nn_wire.specs.Varint.{varint};
 ghost use Rattle.nn_tree.specs.Nodes as nodes;
-ghost use Rattle.nn_message.specs.Messages.{Inode, DirEntry, IsLong, IsDirEntry};
+ghost use Rattle.nn_message.specs.Messages.{Inode, DirEntry, IsDirEntry};
 ghost use Rattle.nn_message.specs.Spelling.{delimited, dir_entry};
 ghost use Rattle.nn_image.specs.Assembly.{listing};
 ghost use Rattle.nn_image.specs.Building.{entries_text, IsListing};

@@ -74,8 +74,8 @@ fn read_image<T: Tree>(alloc: Global, bytes: &[u8], layout: u32) -> Result<Loade
 }
 
 /// Reads an image of this layout whole. An `Err` is the first fault that applies. Memory is asked for only once each
-/// message is known to be whole and both counts to be those of the messages, and then for what the messages hold: no
-/// count or length of a damaged file takes any.
+/// message is known to be whole, both counts to be those of the messages, and nodes and blocks to be no more than a
+/// namespace has, and then for what the messages hold: no count or length of a damaged file takes any.
 ///
 /// Like Hadoop's `FSImageFormatProtobuf.Loader`, but that it takes just one spelling of each namespace.
 pub fn load<T: Tree>(alloc: Global, bytes: &[u8], layout: i32) -> Result<Loaded<T>, ImageFault>

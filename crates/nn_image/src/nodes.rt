@@ -1,10 +1,11 @@
 // The nodes of INODE, put into a tree one after the other.
 ghost use Rattle.std.specs.Prelude.{◌≡◌, ◌≢◌, Bool, true, List, ◌∷◌, [], ◌++◌, All, Err, IfOk, OnOk, Some, None};
+ghost use Rattle.nn_base.specs.Labels.{IsLabel};
 ghost use Rattle.nn_base.specs.Paths.{Bytes};
 ghost use Rattle.nn_tree.specs.declared.spot.Spot.{Spot};
 ghost use Rattle.nn_tree.specs.Nodes as nodes;
 ghost use Rattle.nn_image.specs.declared.unmade.Unmade.TheVariants as unmade;
-ghost use Rattle.nn_message.specs.Messages.{Inode, DirEntry, IsInode, IsDirEntry, IsLabel};
+ghost use Rattle.nn_message.specs.Messages.{Inode, DirEntry, IsInode, IsDirEntry};
 ghost use Rattle.nn_message.specs.Views.{IsInodeView};
 ghost use Rattle.nn_image.specs.Assembly.{Partial, listing, opened, add_inodes, add_root};
 ghost use Rattle.nn_image.specs.Building.{AreOpen, IsNoted, entries_text, inodes_text, IsHalf};

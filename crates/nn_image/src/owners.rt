@@ -1,6 +1,6 @@
 // The owner and the group of a node of an image, by their numbers.
 ghost use Rattle.std.specs.Prelude.{◌≡◌, Some, None, All, MatchOption};
-ghost use Rattle.nn_message.specs.Messages.{IsLabel};
+ghost use Rattle.nn_base.specs.Labels.{IsLabel};
 ghost use Rattle.nn_image.specs.Assembly.{use_name, use_names};
 
 use nn_base::Label;

@@ -1,11 +1,13 @@
 // The next node of an image, before it is put into the tree.
 ghost use Rattle.std.specs.Prelude.{◌≡◌, ◌≢◌, ◌+◌, ◌<◌, ◌≤◌, ◌⊎◌, Bool, true, false, List, ◌∷◌, [], ◌++◌, length, All, Err, IfOk, Some, None, IfSome, MatchOption};
+ghost use Rattle.nn_base.specs.Labels.{IsLabel};
+ghost use Rattle.nn_base.specs.Limits.{most_levels, most_path, most_nodes, most_blocks};
 ghost use Rattle.nn_base.specs.Paths.{Bytes, is_name};
 ghost use Rattle.nn_tree.specs.declared.spot.Spot.{Spot};
 ghost use Rattle.nn_tree.specs.Nodes.{blocks_of};
 ghost use Rattle.nn_tree.specs.Namespace.{node_count, block_count};
 ghost use Rattle.nn_image.specs.declared.unmade.Unmade.TheVariants.{Tree};
-ghost use Rattle.nn_message.specs.Messages.{Inode, IsInode, IsLabel};
+ghost use Rattle.nn_message.specs.Messages.{Inode, IsInode};
 ghost use Rattle.nn_message.specs.Views.{IsInodeView};
 ghost use Rattle.nn_image.specs.Assembly.{Level, Partial, waiting, placed, has_room, add_inode};
 ghost use Rattle.nn_image.specs.Building.{IsOpen, AreOpen, IsPrepared};
@@ -16,19 +18,11 @@ use crate::open_dir::{OpenDir, next_child, take_waiting};
 use crate::owners::owners_of;
 use crate::unmade::Unmade;
 use nn_base::Name;
+use nn_base::limits::{MOST_BLOCKS, MOST_LEVELS, MOST_NODES, MOST_PATH};
 use nn_message::InodeView;
 use nn_strtab::Names;
 use nn_tree::{Kind, Node};
 use std::alloc::Global;
-
-/// The most names and bytes of text that a path has, and the most nodes and blocks of a namespace.
-const LEVELS: usize = 1_000;
-
-const TEXT: usize = 8_000;
-
-const NODES: usize = 1_048_576;
-
-const BLOCKS: usize = 8_388_608;
 
 /// A node with its name and its parent, which has it as the newest child.
 #[derive(Drop)]
@@ -45,18 +39,18 @@ pub(crate) struct Prepared<'a> {
 
 /// How many names the path of a child has, and how many bytes its text, where these aren't too many.
 fn child_path(parent: &OpenDir<'_>, name: &[u8]) -> Option<(usize, usize)>
-    ensures none { result ≡ None → 1000 < parent.now.names + 1 ⊎ 8000 < parent.now.text + (1 + length name.now) }
+    ensures none { result ≡ None → most_levels < parent.now.names + 1 ⊎ most_path < parent.now.text + (1 + length name.now) }
     ensures some { IfSome result (λ path. (path.0 ≡ parent.now.names + 1) × (path.1 ≡ parent.now.text + (1 + length name.now)) ×
-        (path.0 ≤ 1000) × (path.1 ≤ 8000)) }
+        (path.0 ≤ most_levels) × (path.1 ≤ most_path)) }
 {
-    if parent.names >= LEVELS {
+    if parent.names >= MOST_LEVELS {
         return None;
     }
-    if parent.text >= TEXT {
+    if parent.text >= MOST_PATH {
         return None;
     }
     let text = parent.text + 1 + name.len();
-    if text > TEXT {
+    if text > MOST_PATH {
         return None;
     }
     Some((parent.names + 1, text))
@@ -64,17 +58,17 @@ fn child_path(parent: &OpenDir<'_>, name: &[u8]) -> Option<(usize, usize)>
 
 /// Whether one node more, and its blocks, are not too many.
 fn are_few(noted: &Noted, kind: &Kind) -> bool
-    ensures yes { result ≡ true → (length noted.now.inodes.items < 1048576) × (length noted.now.blocks.items + length (blocks_of kind.now) ≤ 8388608) }
-    ensures no { result ≡ false → 1048576 ≤ length noted.now.inodes.items ⊎ 8388608 < length noted.now.blocks.items + length (blocks_of kind.now) }
+    ensures yes { result ≡ true → (length noted.now.inodes.items < most_nodes) × (length noted.now.blocks.items + length (blocks_of kind.now) ≤ most_blocks) }
+    ensures no { result ≡ false → most_nodes ≤ length noted.now.inodes.items ⊎ most_blocks < length noted.now.blocks.items + length (blocks_of kind.now) }
 {
-    if noted.inodes.len() >= NODES {
+    if noted.inodes.len() as u64 >= MOST_NODES {
         return false;
     }
-    let blocks = kind.block_count();
-    if blocks > BLOCKS {
+    let blocks = kind.block_count() as u64;
+    if blocks > MOST_BLOCKS {
         return false;
     }
-    if noted.blocks.len() > BLOCKS - blocks {
+    if noted.blocks.len() as u64 > MOST_BLOCKS - blocks {
         return false;
     }
     true

@@ -6,8 +6,8 @@ ghost use Rattle.nn_tree.specs.Imaged.{IsImaged};
 ghost use Rattle.nn_image.specs.Imaged.{AreLabelled};
 ghost use Rattle.nn_image.specs.Faults.{IsSmall};
 ghost use Rattle.nn_image.specs.Image.{image_of, string_table};
-ghost use Rattle.nn_message.specs.Messages.{IsLabel};
 ghost use Rattle.std.specs.FinMap as map;
+ghost use Rattle.nn_base.specs.Labels.{IsLabel};
 ghost use Rattle.nn_image.specs.Saving.{Saves, left, ungiven, target_of, rest, steps};
 
 use crate::advance::advance;

@@ -1,8 +1,10 @@
 // The string table of an image, as it is read.
 ghost use Rattle.std.specs.Prelude.{◌≡◌, ◌≢◌, ◌+◌, ◌-◌, ◌^◌, ◌<◌, ◌≤◌, ◌⊎◌, List, [], ◌∷◌, ◌++◌, length, All, Err, IfOk, OnOk, true, false, map, bytes_eq};
 ghost use Rattle.std.specs.List.{list_any};
+ghost use Rattle.nn_base.specs.Labels.{IsLabel};
+ghost use Rattle.nn_base.specs.Limits.{most_image};
 ghost use Rattle.nn_image.specs.declared.unmade.Unmade.TheVariants as unmade;
-ghost use Rattle.nn_message.specs.Messages.{Text, IsText, IsLabel};
+ghost use Rattle.nn_message.specs.Messages.{Text, IsText};
 ghost use Rattle.nn_image.specs.Building.{texts_text, are_table};
 
 use crate::unmade::Unmade;
@@ -32,7 +34,7 @@ fn add_name(names: &mut Names, number: u64, text: &[u8]) -> Result<(), Unmade>
 /// The names of these messages, which are numbered from 1 in their order. No name stands twice. An image has at most
 /// 2^30 bytes, so there are fewer names than numbers.
 pub(crate) fn read_table(alloc: Global, texts: &[u8]) -> Result<Names, Unmade>
-    requires { length texts.now ≤ 2 ^ 30 }
+    requires { length texts.now ≤ most_image }
     ensures labels { IfOk result (λ names. All IsLabel names) }
     ensures ok { (entries : List Text) → All IsText entries → texts.now ≡ texts_text entries → IfOk result (λ names.
         (names ≡ map (λ t. t.text) entries) × (are_table entries ≡ true)) }

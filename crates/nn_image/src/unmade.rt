@@ -1,6 +1,5 @@
 // Why messages were not put together to a tree.
-use nn_base::NoMemory;
-use std::alloc::AllocFailed;
+use nn_base::OutOfMemory;
 
 /// Why there is no tree of an image's messages.
 #[derive(Clone, Copy, Debug, PartialEq, Eq)]
@@ -11,24 +10,13 @@ pub(crate) enum Unmade {
     Memory,
 }
 
-impl From<NoMemory> for Unmade {
+impl<M: OutOfMemory + Drop> From<M> for Unmade {
     ghost use Rattle.std.specs.Prelude.{◌≡◌};
     ghost use Rattle.nn_image.specs.declared.unmade.Unmade.TheVariants.{Memory};
 
     ghost from_gives = { λ _ unmade. unmade ≡ Memory };
 
-    fn from(_: NoMemory) -> Unmade {
-        Unmade::Memory
-    }
-}
-
-impl<T: Drop> From<AllocFailed<T>> for Unmade {
-    ghost use Rattle.std.specs.Prelude.{◌≡◌};
-    ghost use Rattle.nn_image.specs.declared.unmade.Unmade.TheVariants.{Memory};
-
-    ghost from_gives = { λ _ unmade. unmade ≡ Memory };
-
-    fn from(_: AllocFailed<T>) -> Unmade {
+    fn from(_: M) -> Unmade {
         Unmade::Memory
     }
 }

@@ -1,8 +1,7 @@
 -- What the messages of an image hold, and the range of each number in them.
 use Rattle.std.specs.Prelude.{◌≡◌, ◌≢◌, ℕ, ◌^◌, ◌<◌, ◌≤◌, ◌⊎◌, true, List, [], length, All, Some}
-pub use Rattle.nn_base.specs.Labels.{IsLabel}
-use Rattle.nn_base.specs.Limits.{most_nodes}
-pub use Rattle.nn_base.specs.Limits.{IsLong}
+use Rattle.nn_base.specs.Labels.{IsLabel}
+use Rattle.nn_base.specs.Limits.{most_nodes, IsLong}
 use Rattle.nn_base.specs.Paths.{Bytes, is_name}
 use Rattle.nn_tree.specs.declared.node.Kind.{Kind}
 use Rattle.nn_message.specs.declared.message.Attributes.{Attributes}

@@ -24,7 +24,7 @@ sound_of g counters t limits range = record {
 
 -- ---- names and parents
 
-last_name_push : (p : Names) (x : Bytes) → last_name (p ++ x ∷ []) ≡ x
+pub last_name_push : (p : Names) (x : Bytes) → last_name (p ++ x ∷ []) ≡ x
 last_name_push [] x = refl
 last_name_push (y ∷ []) x = refl
 last_name_push (y ∷ z ∷ p) x = last_name_push (z ∷ p) x

@@ -5,6 +5,10 @@
 #[cfg(test)]
 mod base;
 #[cfg(test)]
+mod image;
+#[cfg(test)]
+mod limits;
+#[cfg(test)]
 mod marks;
 #[cfg(test)]
 mod message;

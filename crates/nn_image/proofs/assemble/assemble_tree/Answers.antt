@@ -14,7 +14,7 @@ unfolding sections_of
 returns-then-is_counted-clause-ok g c = λ content is e.
     let heads = c.in-Some.ensures.some content is (ap (λ (s : Sections). s.info) (sym e)) (ap (λ (s : Sections). s.strings) (sym e)) (ap (λ (s : Sections). s.inodes) (sym e)) in
     let directories : c.args.directories.now ≡ entries_text content.dir_entries = ap (λ (s : Sections). s.directories) (sym e) in
-    let counted = (c.is_counted.ensures content heads).0 c.if-is_counted.true in
+    let counted = (c.is_counted.ensures content is heads).0 c.if-is_counted.true in
     c.tree_of.ensures.ok content is heads directories counted
 
 pub returns-then-is_counted-clause-tree : goal.returns-then-is_counted-clause-tree
@@ -22,11 +22,11 @@ unfolding sections_of
 returns-then-is_counted-clause-tree g c = λ err content is e.
     let heads = c.in-Some.ensures.some content is (ap (λ (s : Sections). s.info) (sym e)) (ap (λ (s : Sections). s.strings) (sym e)) (ap (λ (s : Sections). s.inodes) (sym e)) in
     let directories : c.args.directories.now ≡ entries_text content.dir_entries = ap (λ (s : Sections). s.directories) (sym e) in
-    let counted = (c.is_counted.ensures content heads).0 c.if-is_counted.true in
+    let counted = (c.is_counted.ensures content is heads).0 c.if-is_counted.true in
     c.tree_of.ensures.tree content is heads directories counted err
 
 pub returns-else-is_counted-clause-tree : goal.returns-else-is_counted-clause-tree
 unfolding sections_of
 returns-else-is_counted-clause-tree g c = λ err content is e.
     let heads = c.in-Some.ensures.some content is (ap (λ (s : Sections). s.info) (sym e)) (ap (λ (s : Sections). s.strings) (sym e)) (ap (λ (s : Sections). s.inodes) (sym e)) in
-    uncounted content (λ counted. false≢true (sym c.if-is_counted.false ∙ (c.is_counted.ensures content heads).1 counted))
+    uncounted content is (λ counted. false≢true (sym c.if-is_counted.false ∙ (c.is_counted.ensures content is heads).1 counted))

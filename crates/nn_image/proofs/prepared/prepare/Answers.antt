@@ -1,6 +1,7 @@
 use Rattle.std.proofs.Common.{◌≡◌, ◌+◌, ◌<◌, ◌≤◌, ◌⊎◌, [], ◌∷◌, ◌++◌, length, true, refl, sym, ap, subst, ◌∙◌}
 use Rattle.std.specs.Prelude.{Option}
 use Rattle.std.specs.Option.{SomeIff}
+use Rattle.nn_base.specs.Limits.{most_levels, most_path, most_nodes, most_blocks}
 use Rattle.nn_base.specs.Paths.{Bytes, is_name, joined}
 use Rattle.nn_base.proofs.PathsLemmas.{joined_push}
 use Rattle.nn_tree.specs.declared.node.Kind.{Kind}
@@ -30,7 +31,7 @@ returns-in_default-child_path-clause-tree c = λ has place h inode is shows used
     let long = c.in_default-child_path.ensures.none refl in
     no_room c.args.names.now h inode (record { path = stands.0.path ++ inode.name ∷ []; levels = stands.0 ∷ stands.1 }) stands.2
     (path_too_long h.nodes stands.0 inode.name inode.kind c.in-Some-stand.parent.names c.in-Some-stand.parent.text stands.3.names stands.3.text
-    (subst (λ (name : Bytes). (1000 < c.in-Some-stand.parent.names + 1) ⊎ (8000 < c.in-Some-stand.parent.text + (1 + length name))) shows.name long))
+    (subst (λ (name : Bytes). (most_levels < c.in-Some-stand.parent.names + 1) ⊎ (most_path < c.in-Some-stand.parent.text + (1 + length name))) shows.name long))
 
 pub returns-then-not-are_few-clause-tree : goal.returns-then-not-are_few-clause-tree
 unfolding node_of
@@ -40,7 +41,7 @@ returns-then-not-are_few-clause-tree c = λ has place h inode is shows used are 
     let node = c.in_ok-node.ensures.ok inode is shows in
     no_room c.args.names.now h inode (record { path = stands.0.path ++ inode.name ∷ []; levels = stands.0 ∷ stands.1 }) stands.2
     (too_many h.nodes (stands.0.path ++ inode.name ∷ []) inode.kind (length c.args.noted.now.inodes.items) (length c.args.noted.now.blocks.items) inodes number
-    (subst (λ (kind : Kind). (1048576 ≤ length c.args.noted.now.inodes.items) ⊎ (8388608 < length c.args.noted.now.blocks.items + length (blocks_of kind))) (ap (λ (n : Node). n.kind) node) many))
+    (subst (λ (kind : Kind). (most_nodes ≤ length c.args.noted.now.inodes.items) ⊎ (most_blocks < length c.args.noted.now.blocks.items + length (blocks_of kind))) (ap (λ (n : Node). n.kind) node) many))
 
 pub returns-clause-ok : goal.returns-clause-ok
 unfolding node_of
@@ -55,10 +56,10 @@ returns-clause-ok c = λ has place h inode is shows used are inodes number.
     let text : c.in-Some-child_path.text ≡ length (joined (stands.0.path ++ inode.name ∷ [])) =
     path.1 ∙ (λ i. stands.3.text i + (1 + length (shows.name i))) ∙ sym (joined_push stands.0.path inode.name) in
     let room : HasRoom h.nodes (stands.0.path ++ inode.name ∷ []) inode.kind = record {
-      levels = subst (λ n. n ≤ 1000) names path.2;
-      size = subst (λ n. n ≤ 8000) text path.3;
-      nodes = subst (λ n. n < 1048576) inodes few.0;
-      blocks = subst (λ n. n ≤ 8388608) (λ i. number i + length (blocks_of (kind i))) few.1;
+      levels = subst (λ n. n ≤ most_levels) names path.2;
+      size = subst (λ n. n ≤ most_path) text path.3;
+      nodes = subst (λ n. n < most_nodes) inodes few.0;
+      blocks = subst (λ n. n ≤ most_blocks) (λ i. number i + length (blocks_of (kind i))) few.1;
     } in
     record {
       owned = record { owner = c.in-Some.owners.owner; group = c.in-Some.owners.group; used = c.in-Some.owners.used };

@@ -1,7 +1,7 @@
 use Rattle.std.proofs.Common.{◌+◌, sym, ap, ◌∙◌, subst, arith, length}
 use Rattle.std.specs.Prelude.{All}
+use Rattle.nn_base.specs.Labels.{IsLabel}
 use Rattle.nn_strtab.specs.Numbers.{with_use}
-use Rattle.nn_message.specs.Messages.{IsLabel}
 use Rattle.nn_tree.proofs.BelowLemmas.{none_visited, one_more, fewer_left, stays_below}
 use Rattle.nn_tree.proofs.PrefixLemmas.{under_itself}
 use Rattle.nn_image.proofs.CollectLemmas.{short_more, few_collected, none_collected, all_collected, all_counted, two_more, not_all, one_more_name, few_nodes, all_entries}

@@ -1,9 +1,9 @@
 use Rattle.std.proofs.Common.{◌≡◌, ◌-◌, take, length}
 use Rattle.std.specs.Prelude.{All}
 use Rattle.std.specs.List.{flat_map}
+use Rattle.nn_base.specs.Labels.{IsLabel}
 use Rattle.nn_strtab.specs.Numbers.{first_uses}
 use Rattle.nn_tree.specs.Below.{entries_below, visited, IsBelow}
-use Rattle.nn_message.specs.Messages.{IsLabel}
 use Rattle.nn_image.specs.Image.{labels}
 use Rattle.nn_image.proofs.saver.collect.Given as goal
 

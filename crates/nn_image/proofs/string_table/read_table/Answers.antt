@@ -5,7 +5,8 @@ use Rattle.std.specs.Borrow.{Bor}
 use Rattle.std.specs.List.{IsDistinct, list_any}
 use Rattle.std.proofs.lemmas.Option.{none-some, same_Some}
 use Rattle.std.proofs.lemmas.List.Elements.{All-push}
-use Rattle.nn_message.specs.Messages.{IsText, IsLabel}
+use Rattle.nn_base.specs.Labels.{IsLabel}
+use Rattle.nn_message.specs.Messages.{IsText}
 use Rattle.nn_message.specs.Spelling.{delimited, string}
 use Rattle.nn_message.specs.Views.{IsTextView}
 use Rattle.nn_image.proofs.TakingLemmas.{takes_first, none_left, delimited_some, is_none, is_not_none}

@@ -1,7 +1,8 @@
 use Rattle.std.proofs.Common.{◌≡◌, ◌+◌, ◌≤◌, List, length}
 use Rattle.std.specs.Prelude.{All, bytes_eq}
 use Rattle.std.specs.List.{IsDistinct}
-use Rattle.nn_message.specs.Messages.{Text, IsText, IsLabel}
+use Rattle.nn_base.specs.Labels.{IsLabel}
+use Rattle.nn_message.specs.Messages.{Text, IsText}
 use Rattle.nn_image.specs.Building.{texts_text}
 use Rattle.nn_image.proofs.StringTableLemmas.{ToCome}
 use Rattle.nn_image.proofs.string_table.read_table.Given as goal

@@ -1,5 +1,6 @@
-use super::*;
+// Images that were written down by hand, after HDFS's `fsimage.proto`.
 use nn_base::{NoMemory, Path, Txid};
+use nn_image::{ImageFault, load, save};
 use nn_tree::{PlainTree, Tree, Walk};
 use std::alloc::Global;
 use std::test::Fail;
