@@ -70,15 +70,15 @@ all_reached bytes first last end next so_far none = record {
 
 -- ---- the same of the rest of a slice
 
-pub more_reached : (bytes : List ℕ) (first : ℕ) (last : Option ℕ) (end next len : ℕ) → Reached bytes first last end next → IsNext (take (length bytes - end) (drop end bytes)) next len → Reached bytes first (Some next) (end + len) (next + 1)
-more_reached bytes first last end next len so_far found =
-    let at = subst (λ (t : List ℕ). IsNext t next len) (rest_is bytes end) found in
-    one_more bytes first last end next len at.0 so_far at.1 at.2 at.3
+pub more_reached : (bytes : List ℕ) (first : ℕ) (last : Option ℕ) (end next len : ℕ) (r : Record) → Reached bytes first last end next → IsNext (take (length bytes - end) (drop end bytes)) next r len → Reached bytes first (Some next) (end + len) (next + 1)
+more_reached bytes first last end next len r so_far found =
+    let at = subst (λ (t : List ℕ). IsNext t next r len) (rest_is bytes end) found in
+    one_more bytes first last end next len r so_far at.id_is at.begins at.len_is
 
-pub less_is_left : (bytes : List ℕ) (end next len : ℕ) → IsNext (take (length bytes - end) (drop end bytes)) next len → length bytes - (end + len) < length bytes - end
-less_is_left bytes end next len found =
-    let at = subst (λ (t : List ℕ). IsNext t next len) (rest_is bytes end) found in
-    omega (arith, further (drop end bytes) (drop len (drop end bytes)) at.0 len at.2 at.3, length-drop end bytes)
+pub less_is_left : (bytes : List ℕ) (end next len : ℕ) (r : Record) → IsNext (take (length bytes - end) (drop end bytes)) next r len → length bytes - (end + len) < length bytes - end
+less_is_left bytes end next len r found =
+    let at = subst (λ (t : List ℕ). IsNext t next r len) (rest_is bytes end) found in
+    omega (arith, further (drop end bytes) (drop len (drop end bytes)) r len at.begins at.len_is, length-drop end bytes)
 
 pub whole_reached : (bytes : List ℕ) (first : ℕ) (last : Option ℕ) (end next : ℕ) (so_far : Reached bytes first last end next) → NoneNext (take (length bytes - end) (drop end bytes)) next → IsWhole bytes first so_far.rs
 whole_reached bytes first last end next so_far none = all_reached bytes first last end next so_far (subst (λ (t : List ℕ). NoneNext t next) (rest_is bytes end) none)

@@ -1,5 +1,5 @@
 -- Records that stand one after the other: there is one way to read them, and so one longest run.
-use Rattle.std.proofs.Common.{◌≡◌, ℕ, ◌+◌, ◌-◌, ◌≤◌, ℤ, true, false, cond, nat_eq, inl, inr, List, [], ◌∷◌, ◌++◌, length, drop, take, Option, refl, sym, ap, subst, ◌∙◌, append_assoc, arith, length-append}
+use Rattle.std.proofs.Common.{◌≡◌, ℕ, zero, suc, get_or, ◌+◌, ◌-◌, ◌<◌, ◌≤◌, ℤ, true, false, cond, nat_eq, inl, inr, List, [], ◌∷◌, ◌++◌, length, drop, take, Option, refl, sym, ap, subst, ◌∙◌, append_assoc, arith, length-append}
 use Rattle.std.proofs.lemmas.Bool.{cases_Bool}
 use Rattle.std.proofs.lemmas.List.{take_at, drop_at, take_all, take-append-drop, length-drop}
 use Rattle.std.specs.Cmp.Lexicographic.{pointwise, same_text, other_text}
@@ -23,7 +23,7 @@ none_spelled : (rest : List ℕ) → spelled [] ++ rest ≡ rest
 unfolding spelled
 none_spelled rest = refl
 
-one_spelled : (r : Record) (rs : List Record) (rest : List ℕ) → spelled (r ∷ rs) ++ rest ≡ spelling r ++ (spelled rs ++ rest)
+pub one_spelled : (r : Record) (rs : List Record) (rest : List ℕ) → spelled (r ∷ rs) ++ rest ≡ spelling r ++ (spelled rs ++ rest)
 one_spelled r rs rest = ap (λ t. t ++ rest) (spelled-cons r rs) ∙ append_assoc (spelling r) (spelled rs) rest
 
 -- ---- one record after the other
@@ -42,6 +42,12 @@ none_is_longer first (r ∷ rs) (q ∷ qs) rest after rs_from qs_from e none =
     let same = first_same r q rs qs rest after rs_from.1 qs_from.1 e in
     let next : first + length (r ∷ rs) ≡ first + 1 + length rs = omega arith in
     omega (arith, none_is_longer (first + 1) rs qs rest after rs_from.2 qs_from.2 same.1 (subst (NoneNext rest) next none))
+
+-- each record has the id of its place
+pub id_at : (first : ℕ) (rs : List Record) (k : ℕ) (d : Record) → AreFrom first rs → k < length rs → (get_or rs k d).id ≡ first + k
+id_at first [] k d from lt = absurd (omega arith)
+id_at first (r ∷ rs) zero d from lt = omega (arith, from.0)
+id_at first (r ∷ rs) (suc k) d from lt = omega (arith, id_at (first + 1) rs k d from.2 (omega arith))
 
 -- as many records are the same
 same_records : (first : ℕ) (rs qs : List Record) (rest after : List ℕ) → AreFrom first rs → AreFrom first qs → spelled rs ++ rest ≡ spelled qs ++ after → length rs ≡ length qs → rs ≡ qs
@@ -85,19 +91,23 @@ header_within bytes layout h = omega (arith, ap length (header_there bytes layou
 
 -- ---- the intact run
 
-behind_header : (bytes : List ℕ) (layout : ℤ) (text after : List ℕ) → bytes ≡ header layout ++ text ++ after → drop 8 bytes ≡ text ++ after
+pub behind_header : (bytes : List ℕ) (layout : ℤ) (text after : List ℕ) → bytes ≡ header layout ++ text ++ after → drop 8 bytes ≡ text ++ after
 behind_header bytes layout text after e = ap (drop 8) (e ∙ append_assoc (header layout) text after) ∙ drop_at (header layout) (text ++ after) 8 (length-header layout)
 
 run_begins : (bytes : List ℕ) (layout : ℤ) (first : ℕ) (rs : List Record) → has_header bytes layout ≡ true → IsRun bytes layout first rs → BeginWith (drop 8 bytes) first rs
 run_begins bytes layout first [] h run = record { ids = tt; after = drop 8 bytes; text = sym (none_spelled (drop 8 bytes)) }
 run_begins bytes layout first (r ∷ rs) h run = record { ids = run.0; after = run.1; text = behind_header bytes layout (spelled (r ∷ rs)) run.1 run.2 }
 
+pub run_from : (bytes : List ℕ) (layout : ℤ) (first : ℕ) (rs : List Record) → IsRun bytes layout first rs → AreFrom first rs
+run_from bytes layout first [] run = tt
+run_from bytes layout first (r ∷ rs) run = run.0
+
 begun_run : (bytes : List ℕ) (layout : ℤ) (first : ℕ) (rs : List Record) → has_header bytes layout ≡ true → BeginWith (drop 8 bytes) first rs → IsRun bytes layout first rs
 begun_run bytes layout first [] h begin = tt
 begun_run bytes layout first (r ∷ rs) h begin =
     (begin.ids, begin.after, header_there bytes layout h ∙ ap (λ t. header layout ++ t) begin.text ∙ sym (append_assoc (header layout) (spelled (r ∷ rs)) begin.after))
 
-whole_is_intact : (bytes : List ℕ) (layout : ℤ) (first : ℕ) (rs : List Record) → has_header bytes layout ≡ true → IsWhole (drop 8 bytes) first rs → IsIntactRun bytes layout first rs
+pub whole_is_intact : (bytes : List ℕ) (layout : ℤ) (first : ℕ) (rs : List Record) → has_header bytes layout ≡ true → IsWhole (drop 8 bytes) first rs → IsIntactRun bytes layout first rs
 whole_is_intact bytes layout first rs h whole = record {
   run = begun_run bytes layout first rs h whole.begin;
   longest = λ qs run. whole.longest qs (run_begins bytes layout first qs h run);
@@ -125,26 +135,22 @@ one_intact_run bytes layout first rs qs x y = same_runs bytes layout first rs qs
 
 -- ---- what is told of it
 
-pub told_run : (bytes : List ℕ) (layout : ℤ) (first : ℕ) (last : Option ℕ) (len : ℕ) → has_header bytes layout ≡ true → IsAll (take (length bytes - 8) (drop 8 bytes)) first last len
+pub told_run : (bytes : List ℕ) (layout : ℤ) (first : ℕ) (last : Option ℕ) (len : ℕ) → has_header bytes layout ≡ true → IsAll (drop 8 bytes) first last len
     → (rs : List Record) × IsIntactRun bytes layout first rs × (last ≡ last_id rs) × (8 + len ≡ end_of bytes layout rs)
 told_run bytes layout first last len h all =
     let rs = all.0 in
-    let whole = subst (λ (t : List ℕ). IsWhole t first rs) (rest_is bytes 8) all.1 in
-    (rs, whole_is_intact bytes layout first rs h whole, all.2, ap (λ n. 8 + n) all.3 ∙ ap (λ b. cond b (8 + length (spelled rs)) 0) (sym h))
+    (rs, whole_is_intact bytes layout first rs h all.1, all.2, ap (λ n. 8 + n) all.3 ∙ ap (λ b. cond b (8 + length (spelled rs)) 0) (sym h))
 
-pub told_within : (bytes : List ℕ) (layout : ℤ) (first : ℕ) (last : Option ℕ) (len : ℕ) → has_header bytes layout ≡ true → IsAll (take (length bytes - 8) (drop 8 bytes)) first last len → 8 + len ≤ length bytes
+pub told_within : (bytes : List ℕ) (layout : ℤ) (first : ℕ) (last : Option ℕ) (len : ℕ) → has_header bytes layout ≡ true → IsAll (drop 8 bytes) first last len → 8 + len ≤ length bytes
 told_within bytes layout first last len h all =
     let begin = all.1.begin in
-    let parts : drop 8 bytes ≡ spelled all.0 ++ begin.after = sym (rest_is bytes 8) ∙ begin.text in
-    omega (arith, all.3, header_within bytes layout h, ap length parts, length-append (spelled all.0) begin.after, length-drop 8 bytes)
+    omega (arith, all.3, header_within bytes layout h, ap length begin.text, length-append (spelled all.0) begin.after, length-drop 8 bytes)
 
-pub told_frame : (bytes : List ℕ) (layout : ℤ) (first : ℕ) → has_header bytes layout ≡ true → ReachFrame (take (length bytes - 8) (drop 8 bytes)) first → ReachesFrame bytes layout first
-told_frame bytes layout first h reach =
-    let behind = subst (λ (t : List ℕ). ReachFrame t first) (rest_is bytes 8) reach in
-    record {
-      rs = behind.rs;
-      after = behind.begin.after;
-      ids = behind.begin.ids;
-      text = header_there bytes layout h ∙ ap (λ t. header layout ++ t) behind.begin.text ∙ sym (append_assoc (header layout) (spelled behind.rs) behind.begin.after);
-      frame = behind.frame;
-    }
+pub told_frame : (bytes : List ℕ) (layout : ℤ) (first : ℕ) → has_header bytes layout ≡ true → ReachFrame (drop 8 bytes) first → ReachesFrame bytes layout first
+told_frame bytes layout first h reach = record {
+  rs = reach.rs;
+  after = reach.begin.after;
+  ids = reach.begin.ids;
+  text = header_there bytes layout h ∙ ap (λ t. header layout ++ t) reach.begin.text ∙ sym (append_assoc (header layout) (spelled reach.rs) reach.begin.after);
+  frame = reach.frame;
+}

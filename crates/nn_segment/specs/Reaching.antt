@@ -4,9 +4,11 @@ use Rattle.nn_record.specs.declared.transaction.Record.{Record}
 use Rattle.nn_record.specs.Spelling.{spelling, Begins, BeginsWithFrame}
 use Rattle.nn_segment.specs.Segment.{AreFrom, spelled, last_id}
 
--- a record with this id stands at the front, and has so many bytes
-abbrev pub IsNext : List ℕ → ℕ → ℕ → Type 0
-IsNext bytes id len = (r : Record) × (r.id ≡ id) × Begins bytes r (drop len bytes) × (len ≡ length (spelling r))
+-- this record, which has this id, stands at the front, and has so many bytes
+pub record IsNext (bytes : List ℕ) (id : ℕ) (r : Record) (len : ℕ) : Type 0 where
+  pub id_is : r.id ≡ id
+  pub begins : Begins bytes r (drop len bytes)
+  pub len_is : len ≡ length (spelling r)
 
 -- no record with this id stands at the front
 abbrev pub NoneNext : List ℕ → ℕ → Type 0

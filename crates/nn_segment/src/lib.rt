@@ -5,5 +5,5 @@
 mod header;
 mod run;
 
-pub use header::header_put;
-pub use run::{Run, intact_run};
+pub use header::{header_put, records_in};
+pub use run::{Run, intact_run, next_record};

@@ -5,7 +5,7 @@ ghost use Rattle.nn_record.specs.Spelling.{BeginsWithFrame};
 ghost use Rattle.nn_segment.specs.Segment.{IsIntactRun, OneIntactRun, ReachesFrame, last_id, end_of};
 ghost use Rattle.nn_segment.specs.Reaching.{IsNext, IsAll, NoneNext, ReachFrame};
 
-use crate::header::{HEADER_LEN, has_header};
+use crate::header::{HEADER_LEN, records_in};
 use nn_base::{NoMemory, Txid};
 use nn_record::Record;
 use std::alloc::Global;
@@ -30,10 +30,10 @@ pub fn intact_run(alloc: Global, bytes: &[u8], layout: i32, first: Txid) -> Resu
     // No length of a damaged record reserves memory: a whole frame is there before any is asked for.
     ensures memory { OnErr result (ReachesFrame bytes.now layout first) }
 {
-    if !has_header(bytes, layout) {
+    let Some(records) = records_in(bytes, layout) else {
         return Ok(Run { last: None, end: 0 });
-    }
-    let (last, len) = run_of(alloc, &bytes[HEADER_LEN..], first)?;
+    };
+    let (last, len) = run_of(alloc, records, first)?;
     Ok(Run {
         last,
         end: HEADER_LEN + len,
@@ -49,7 +49,7 @@ fn run_of(alloc: Global, records: &[u8], first: Txid) -> Result<(Option<Txid>, u
     let mut last = None;
     let mut end = 0;
     let mut next = first.0;
-    while let Some(len) = next_record(alloc, &records[end..], next)? {
+    while let Some(len) = next_len(alloc, &records[end..], next)? {
         last = Some(Txid(next));
         end += len;
         next += 1;
@@ -57,14 +57,27 @@ fn run_of(alloc: Global, records: &[u8], first: Txid) -> Result<(Option<Txid>, u
     Ok((last, end))
 }
 
-/// How many bytes the record at the front has, if it has this id.
-fn next_record(alloc: Global, rest: &[u8], id: u64) -> Result<Option<usize>, NoMemory>
-    ensures some { IfOk result (λ found. IfSome found (λ len. IsNext rest.now id len)) }
+/// The record at the front of what is left of a segment, and how many bytes it has, if it is whole and has this id: so
+/// are the records of a segment walked one after the other, from behind the header on.
+pub fn next_record(alloc: Global, rest: &[u8], id: u64) -> Result<Option<(Record, usize)>, NoMemory>
+    ensures next { IfOk result (λ found. IfSome found (λ next. IsNext rest.now id next.0 next.1)) }
     ensures none { IfOk result (λ found. IfNone found (NoneNext rest.now id)) }
     ensures memory { OnErr result (BeginsWithFrame rest.now) }
 {
     match Record::get(alloc, rest)? {
-        Some((record, len)) if record.id.0 == id => Ok(Some(len)),
+        Some((record, len)) if record.id.0 == id => Ok(Some((record, len))),
         _ => Ok(None),
+    }
+}
+
+// A record is let go here, once for all its forms, and not in the loop.
+fn next_len(alloc: Global, rest: &[u8], id: u64) -> Result<Option<usize>, NoMemory>
+    ensures some { IfOk result (λ found. IfSome found (λ len. (r : Record) × IsNext rest.now id r len)) }
+    ensures none { IfOk result (λ found. IfNone found (NoneNext rest.now id)) }
+    ensures memory { OnErr result (BeginsWithFrame rest.now) }
+{
+    match next_record(alloc, rest, id)? {
+        Some((_, len)) => Ok(Some(len)),
+        None => Ok(None),
     }
 }

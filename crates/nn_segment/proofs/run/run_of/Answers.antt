@@ -7,10 +7,10 @@ pub loop-len-init : goal.loop-len-init
 loop-len-init c = subst (λ (n : ℕ). Reached c.args.records.now c.args.first None 0 n) (sym c.first.view_is) (nothing_reached c.args.records.now c.args.first)
 
 pub loop-len-smaller : goal.loop-len-smaller
-loop-len-smaller c = less_is_left c.args.records.now c.loop-len.end c.loop-len.next c.in-Some.len (rw c.in-Some.is at c.in_ok-len.ensures.some)
+loop-len-smaller c = let found = rw c.in-Some.is at c.in_ok-len.ensures.some in less_is_left c.args.records.now c.loop-len.end c.loop-len.next c.in-Some.len found.0 found.1
 
 pub loop-len-preserved : goal.loop-len-preserved
-loop-len-preserved c = more_reached _ _ _ _ _ _ c.loop-len.invariant (rw c.in-Some.is at c.in_ok-len.ensures.some)
+loop-len-preserved c = let found = rw c.in-Some.is at c.in_ok-len.ensures.some in more_reached _ _ _ _ _ _ found.0 c.loop-len.invariant found.1
 
 pub returns-in_err-len-clause-memory : goal.returns-in_err-len-clause-memory
 returns-in_err-len-clause-memory c =
