@@ -16,4 +16,3 @@ pub use mem::MemHost;
 pub use past::Part;
 pub use source::MemSource;
 pub use stop::{Choice, Keep, StopFault};
-
