@@ -58,7 +58,7 @@ pub record Called {T E : Type 0} (told : Type 0) (i : ℕ) (call : Call) (old ne
   pub counted : IsCounted i old new result
   pub effect : told → Effect i call old new result
 
--- the same as most_piece, until each proof cites that
+-- what one saying hands to the output at most
 abbrev pub most_said : ℕ
 most_said = most_piece
 

@@ -15,7 +15,7 @@ use nn_base::{DirNo, FileName, Sub};
 #[derive(Clone, Copy, Debug, PartialEq, Eq)]
 pub struct Failed;
 
-/// The same as `MOST_PIECE`, until each caller cites that.
+/// The most bytes that `Host::say` takes at once. A longer text goes out in several pieces.
 pub const MOST_SAID: usize = MOST_PIECE;
 
 /// Why a folder wasn't listed.
@@ -146,7 +146,7 @@ pub trait Host {
         requires { i.0 < (state self.old).count }
         ensures { Called told i.0 Settle (state self.old) (state self.new) result };
 
-    /// Writes these bytes to the output, behind all that was said: at most `MOST_PIECE` at once.
+    /// Writes these bytes to the output, behind all that was said: at most `MOST_SAID` at once.
     fn say(&mut self, bytes: &[u8]) -> Result<(), Failed>
         requires { length bytes.now ≤ most_piece }
         ensures { Spoke told bytes.now (state self.old) (state self.new) result };

@@ -1,12 +1,10 @@
 -- Reading a file whole.
-use Rattle.std.proofs.Common.{◌≡◌, ◌⊎◌, ⊎_elim, ℕ, ◌≤◌, List, ◌++◌, length, take, Bool, true, false, Option, Result, Ok, Err, refl, sym, ◌∙◌, ap, subst, arith}
+use Rattle.std.proofs.Common.{◌≡◌, ℕ, List, ◌++◌, length, take, Bool, true, false, Option, Result, Ok, Err, sym, ◌∙◌, ap, subst, arith}
 use Rattle.std.specs.Prelude.{IsErrAnd}
 use Rattle.std.proofs.lemmas.List.{take_all, take_at}
 use Rattle.nn_host.specs.Listing.{bytes_of, IsRead}
-use Rattle.nn_host.specs.Disk.{Look}
-use Rattle.nn_host.specs.Moments.{State, disk_at}
-use Rattle.nn_host.specs.Calls.{Called}
-use Rattle.nn_host.specs.Runs.{OnlyAt, Looked}
+use Rattle.nn_host.specs.Moments.{State}
+use Rattle.nn_host.specs.Runs.{Looked}
 -- until each user takes it from there
 pub use Rattle.nn_host.proofs.WorkLemmas.{still_then}
 use Rattle.nn_small.specs.Whole.{answered}

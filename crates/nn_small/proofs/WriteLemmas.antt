@@ -1,9 +1,8 @@
 -- The four steps of writing a small file.
 use Rattle.std.proofs.Common.{◌≡◌, ◌≢◌, ◌⊎◌, inl, inr, ⊎_elim, ℕ, List, [], ◌++◌, Option, Some, None, Result, Ok, Err, OnOk, refl, sym, ◌∙◌, ap, subst}
-use Rattle.std.specs.Prelude.{Bool, true, false, if◌then◌else◌, ◌&&◌, is_some}
+use Rattle.std.specs.Prelude.{Bool, true, false, if◌then◌else◌, is_some}
 use Rattle.nn_base.specs.declared.sub.Sub.{Sub}
 use Rattle.nn_base.specs.declared.file_name.FileName.{FileName}
-use Rattle.nn_base.specs.Names.{sub_eq, file_eq}
 use Rattle.nn_host.specs.Disk.{Held, Disk, Reads, File, Call, MakeFile, Append, Sync, RenameFile, with_file, after, reads_after, disk_after, added, add_pending, certain, fresh_file}
 use Rattle.nn_host.specs.Moments.{State, IsLawful, disk_at}
 use Rattle.nn_host.specs.Calls.{Called, Done}
