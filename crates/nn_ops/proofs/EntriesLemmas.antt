@@ -9,19 +9,8 @@ use Rattle.std.specs.Cmp.{IsTotalOrder, tied_itself}
 use Rattle.std.specs.FinMap.{FinMap, get, entries, entries_sorted, get-entries, find, is_sorted, IsAntisymmetric}
 use Rattle.std.specs.FinMap.Entries.{below_all}
 use Rattle.std.proofs.lemmas.List.Sums.{sum_by-cons}
+use Rattle.nn_base.proofs.PlainLemmas.{both_true, and_false}
 use Rattle.nn_tree.specs.Totals.{total}
-
-left : (a b : Bool) → T (a && b) → T a
-left true b h = tt
-left false b h = h
-
-right : (a b : Bool) → T (a && b) → T b
-right true b h = h
-right false b h = absurd h
-
-and_false : (a : Bool) → (a && false) ≡ false
-and_false true = refl
-and_false false = refl
 
 marked : (b : Bool) → b ≡ true → ◌≡◌ {A = ℕ} (cond b 1 0) 1
 marked true h = refl
@@ -40,7 +29,7 @@ module _ {K X : Type 0} {R : K → K → Ordering} (o : IsTotalOrder R) (same : 
   -- a key below all others is none of them
   not_among : (k : K) (es : List (K × X)) → T (below_all R k es) → find R k es ≡ None
   not_among k [] h = refl
-  not_among k (e ∷ es) h = by (R k e.0) (left _ _ h) ∙ not_among k es (right _ _ h)
+  not_among k (e ∷ es) h = by (R k e.0) (both_true _ _ h).0 ∙ not_among k es (both_true _ _ h).1
     where
       by : (r : Ordering) → T (is_lt r) → cond (is_eq r) (Some e.1) (find R k es) ≡ find R k es
       by Less t = refl
@@ -63,7 +52,7 @@ module _ {K X : Type 0} {R : K → K → Ordering} (o : IsTotalOrder R) (same : 
   all_found p [] h each = refl
   all_found p (e ∷ es) h each =
       let first : p e ≡ true = each e.0 e.1 (ap (λ r. cond (is_eq r) (Some e.1) (find R e.0 es)) (tied_itself o e.0)) in
-      (λ i. first i && all_found p es (right _ _ h) (λ q x is. each q x (found_after e es q x (left _ _ h) is)) i)
+      (λ i. first i && all_found p es (both_true _ _ h).1 (λ q x is. each q x (found_after e es q x (both_true _ _ h).0 is)) i)
 
   pub all_by_get : (p : K × X → Bool) (m : FinMap R X) → ((q : K) (x : X) → get m q ≡ Some x → p (q, x) ≡ true) → list_all p (entries m) ≡ true
   all_by_get p m each = all_found p (entries m) (entries_sorted m) (λ q x is. each q x (get-entries m q ∙ is))
@@ -71,8 +60,8 @@ module _ {K X : Type 0} {R : K → K → Ordering} (o : IsTotalOrder R) (same : 
   one_fails : (p : K × X → Bool) (es : List (K × X)) (q : K) (x : X) → find R q es ≡ Some x → p (q, x) ≡ false → list_all p es ≡ false
   one_fails p [] q x is fails = cc
   one_fails p (e ∷ es) q x is fails = elim (R q e.0) as (λ r. R q e.0 ≡ r → cond (is_eq r) (Some e.1) (find R q es) ≡ Some x → (p e && list_all p es) ≡ false) [
-    | Less ↦ λ t is. ap (λ b. p e && b) (one_fails p es q x is fails) ∙ and_false (p e)
-    | Greater ↦ λ t is. ap (λ b. p e && b) (one_fails p es q x is fails) ∙ and_false (p e)
+    | Less ↦ λ t is. ap (λ b. p e && b) (one_fails p es q x is fails) ∙ and_false (p e) false refl
+    | Greater ↦ λ t is. ap (λ b. p e && b) (one_fails p es q x is fails) ∙ and_false (p e) false refl
     | Equal ↦ λ t is.
         let key : q ≡ e.0 = same q e.0 t in
         let value : x ≡ e.1 = cc in

@@ -9,3 +9,4 @@ pub mod EntriesLemmas
 pub mod SharedLemmas
 pub mod ShortLemmas
 pub mod MoveLemmas
+pub mod EffectLemmas

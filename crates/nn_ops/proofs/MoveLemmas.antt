@@ -6,15 +6,17 @@ use Rattle.std.specs.FinMap.{get}
 use Rattle.std.proofs.Math.ListN.{get_or}
 use Rattle.std.proofs.lemmas.List.{take_more, same_from_push}
 use Rattle.std.proofs.lemmas.List.Folds.{list_all-append}
-use Rattle.nn_base.specs.Paths.{Names, Bytes, is_under}
+use Rattle.nn_base.specs.Paths.{Names, Bytes, IsPath, is_under}
 use Rattle.nn_quota.specs.declared.quota.Usage.{Usage}
 use Rattle.nn_tree.specs.Namespace.{Namespace, Nodes, usage_of}
 use Rattle.nn_tree.proofs.PrefixLemmas.{not_under_longer}
 use Rattle.nn_ops.specs.declared.refusal.OpRefusal.TheVariants.{NotFound, Under, Root, Limit, Quota}
 use Rattle.nn_ops.specs.Above.{parent_of, prefixes, is_above, shared, has_room_at, has_room_but}
-use Rattle.nn_ops.specs.Refusals.{Test, when, walk, first_of}
+use Rattle.nn_base.specs.First.{when, first_of}
+use Rattle.nn_ops.specs.Refusals.{Test, walk}
 use Rattle.nn_ops.specs.Commands.{free_tests, moved_tests, is_root}
-use Rattle.nn_ops.proofs.RefusalLemmas.{first_passed, rest_passed, not_so, go_on, both_pass}
+use Rattle.nn_base.proofs.FirstLemmas.{untrue}
+use Rattle.nn_ops.proofs.RefusalLemmas.{first_passed, rest_passed, go_on, both_pass}
 use Rattle.nn_ops.specs.Step.{refusal_of}
 use Rattle.nn_ops.specs.Plans.{IsReady}
 use Rattle.nn_ops.specs.Bounds.{moves_short}
@@ -79,8 +81,8 @@ pub not_below : (m : Nodes) (from to : Names) → first_of (moved_tests m from t
 not_below m from to moved free =
     let h = rest_passed (when (is_root from || is_root to) Root) _ moved in
     let h2 = rest_passed (walk m from) _ h in
-    let there = not_so (is_none (get m from)) NotFound (first_passed _ (when (is_above from to) Under ∷ []) h2) in
-    let above = not_so (is_above from to) Under (first_passed _ [] (rest_passed (when (is_none (get m from)) NotFound) (when (is_above from to) Under ∷ []) h2)) in
+    let there = untrue (is_none (get m from)) NotFound (first_passed _ (when (is_above from to) Under ∷ []) h2) in
+    let above = untrue (is_above from to) Under (first_passed _ [] (rest_passed (when (is_none (get m from)) NotFound) (when (is_above from to) Under ∷ []) h2)) in
     by (is_under from to) refl there above (free_name m to free)
   where
     by : (b : Bool) → is_under from to ≡ b → is_none (get m from) ≡ false → is_above from to ≡ false → get m to ≡ None → b ≡ false
@@ -101,10 +103,11 @@ all_passed ns from to moved free short room =
     (go_on (free_tests ns.nodes to) (last_tests ns.nodes from to) None free (both_pass (moves_short ns.nodes from to) (has_room_but ns.nodes (λ q. is_above q from) (usage_of ns.nodes from) to) Limit Quota short room))
 
 pub move_ready : (ns : Namespace) (has : Spot → Bool) (place : Spot → Names) (spare : Spare) (at parent : Spot) (name : Bytes) (from to f t : Names) (now : ℕ) → refusal_of ns (Rename from to) ≡ None → f ≡ from → t ≡ to
-    → has at ≡ true → place at ≡ from → has parent ≡ true → place parent ≡ parent_of to → t ≡ parent_of t ++ name ∷ [] → now < 2 ^ 63
+    → has at ≡ true → place at ≡ from → has parent ≡ true → place parent ≡ parent_of to → t ≡ parent_of t ++ name ∷ [] → IsPath t → now < 2 ^ 63
     → IsReady (record { op = RenameOld f t now; target = Move at parent name }) has place spare ns
-move_ready ns has place spare at parent name from to f t now passed sf st there is dir above named time = record {
+move_ready ns has place spare at parent name from to f t now passed sf st there is dir above named path time = record {
   fits = ((λ i. refusal_of ns (Rename (sf i) (st i))) ∙ passed, refl);
   bounds = time;
+  path = path;
   target = (there, is ∙ sym sf, (dir, named ∙ (λ i. parent_of (st i) ++ name ∷ []) ∙ (λ i. sym above i ++ name ∷ [])));
 }

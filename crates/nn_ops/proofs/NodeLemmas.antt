@@ -19,10 +19,12 @@ use Rattle.nn_tree.specs.Changes.{change_at, changed, with_quota, with_replicati
 use Rattle.nn_tree.proofs.LimitsLemmas.{limits_insert, limits_time, limits_change_at, limits_block}
 use Rattle.nn_tree.proofs.PlainClauses.{blocks_changed}
 use Rattle.nn_ops.specs.declared.refusal.OpRefusal.TheVariants.{Exists}
-use Rattle.nn_ops.specs.Refusals.{first_of, when, walk, refusal_by}
+use Rattle.nn_base.specs.First.{first_of, when}
+use Rattle.nn_ops.specs.Refusals.{walk, refusal_by}
 use Rattle.nn_ops.specs.Commands.{free_tests}
 use Rattle.nn_ops.specs.Bounds.{blocks_at}
-use Rattle.nn_ops.specs.Changes.{IsChange, IsQuota}
+use Rattle.nn_quota.specs.Quotas.{IsQuota}
+use Rattle.nn_ops.specs.Changes.{IsChange}
 use Rattle.nn_ops.specs.Effects.{touch, change}
 use Rattle.nn_ops.proofs.RefusalLemmas.{first_passed, rest_passed}
 use Rattle.nn_ops.proofs.WalkLemmas.{parent_of_push, dir_above}

@@ -11,24 +11,26 @@ use Rattle.nn_tree.specs.Spots.{Spare}
 use Rattle.nn_record.specs.declared.op.Op.{Op}
 use Rattle.nn_record.specs.declared.op.Op.TheVariants.{Add, RenameOld, Delete, Mkdir, SetReplication, SetPermissions, SetOwner, Close, SetQuota, EndLogSegment, StartLogSegment, AddBlock}
 use Rattle.nn_ops.specs.declared.plan.Target.TheVariants.{New, Move}
-use Rattle.nn_ops.specs.Refusals.{Test, when, first_of}
+use Rattle.nn_base.specs.First.{when, first_of}
+use Rattle.nn_ops.specs.Refusals.{Test}
 use Rattle.nn_ops.specs.Commands.{free_tests, room_tests, node_tests, is_root}
 use Rattle.nn_ops.specs.Above.{is_above, has_room, has_room_but, one_name}
 use Rattle.nn_ops.specs.Bounds.{is_full, is_bad_replication, moves_short}
 use Rattle.nn_ops.specs.declared.refusal.OpRefusal.TheVariants.{Under, Root, Quota, Limit}
 use Rattle.nn_ops.specs.Effects.{new_node}
 use Rattle.nn_ops.specs.Plans.{IsReady, CanPut, CanMove}
-use Rattle.nn_ops.proofs.RefusalLemmas.{first_passed, rest_passed, front_passed, back_passed, not_so, left_false}
+use Rattle.nn_base.proofs.FirstLemmas.{untrue}
+use Rattle.nn_ops.proofs.RefusalLemmas.{first_passed, rest_passed, front_passed, back_passed, left_false}
 use Rattle.nn_tree.proofs.PrefixLemmas.{under_split, under_push, not_under_longer}
 use Rattle.nn_ops.proofs.BoundLemmas.{not_full, good_replication}
 use Rattle.nn_ops.proofs.NodeLemmas.{for_some}
 
 -- ---- new nodes
 
-dir_kind : IsKind (Dir no_quota)
+pub dir_kind : IsKind (Dir no_quota)
 dir_kind = record { replicated = λ r is. cc; few = omega arith; blocks = λ k d lt. absurd (omega arith); names = λ n is. cc; space = λ n is. cc }
 
-file_kind : (r : ℕ) → 0 < r → r ≤ 512 → IsKind (File r true [])
+pub file_kind : (r : ℕ) → 0 < r → r ≤ 512 → IsKind (File r true [])
 file_kind r some few = record {
   replicated = for_some (λ r. (0 < r) × (r ≤ 512)) (Some r) (some, few);
   few = omega arith;
@@ -54,14 +56,14 @@ module _ (parent : Spot) (name : Bytes) (node : Node) (has : Spot → Bool) (pla
   can_put (Mkdir inode path time owner group mode) h =
       can_put_at path (new_node inode time owner group mode (Dir no_quota)) h.target.0.0 h.target.0.1 h.target.1 h.target.2
       (front_passed (free_tests ns.nodes path) (room_tests ns path) h.fits.0)
-      (not_so (is_full ns) Limit (first_passed _ (when (not (has_room ns.nodes one_name path)) Quota ∷ []) (back_passed (free_tests ns.nodes path) (room_tests ns path) h.fits.0)))
+      (untrue (is_full ns) Limit (first_passed _ (when (not (has_room ns.nodes one_name path)) Quota ∷ []) (back_passed (free_tests ns.nodes path) (room_tests ns path) h.fits.0)))
       (record { id = h.bounds.0; mode = h.bounds.2; time = h.bounds.1; kind = dir_kind }) refl
   can_put (Add inode path replication time owner group mode) h =
       let rest = back_passed (free_tests ns.nodes path) (when (is_bad_replication replication) Limit ∷ room_tests ns path) h.fits.0 in
-      let good = good_replication replication (not_so (is_bad_replication replication) Limit (first_passed _ (room_tests ns path) rest)) in
+      let good = good_replication replication (untrue (is_bad_replication replication) Limit (first_passed _ (room_tests ns path) rest)) in
       can_put_at path (new_node inode time owner group mode (File replication true [])) h.target.0.0 h.target.0.1 h.target.1 h.target.2
       (front_passed (free_tests ns.nodes path) (when (is_bad_replication replication) Limit ∷ room_tests ns path) h.fits.0)
-      (not_so (is_full ns) Limit (first_passed _ (when (not (has_room ns.nodes one_name path)) Quota ∷ []) (rest_passed (when (is_bad_replication replication) Limit) (room_tests ns path) rest)))
+      (untrue (is_full ns) Limit (first_passed _ (when (not (has_room ns.nodes one_name path)) Quota ∷ []) (rest_passed (when (is_bad_replication replication) Limit) (room_tests ns path) rest)))
       (record { id = h.bounds.0; mode = h.bounds.2; time = h.bounds.1; kind = file_kind replication good.0 good.1 }) refl
   can_put (AddBlock path id stamp len) h = absurd h.target.0
   can_put (RenameOld from to time) h = absurd h.target
@@ -76,7 +78,7 @@ module _ (parent : Spot) (name : Bytes) (node : Node) (has : Spot → Bool) (pla
 
 -- ---- moves
 
-outside : (p q : Names) (name : Bytes) → is_above p (q ++ name ∷ []) ≡ false → is_under p q ≡ false
+pub outside : (p q : Names) (name : Bytes) → is_above p (q ++ name ∷ []) ≡ false → is_under p q ≡ false
 outside p q name h = elim (is_under p q) as (λ b. is_under p q ≡ b → b ≡ false) [
   | false ↦ λ e. refl
   | true ↦ λ e.
@@ -94,12 +96,12 @@ module _ (at parent : Spot) (name : Bytes) (has : Spot → Bool) (place : Spot �
   can_move from to time h =
       let last : List Test = when (not (moves_short ns.nodes from to)) Limit ∷ when (not (has_room_but ns.nodes (λ q. is_above q from) (usage_of ns.nodes from) to)) Quota ∷ [] in
       let under : List Test = when (is_above from to) Under ∷ (free_tests ns.nodes to ++ last) in
-      let root = left_false (is_root from) (is_root to) (not_so (is_root from || is_root to) Root (first_passed _ (node_tests ns.nodes from ++ under) h.fits.0)) in
+      let root = left_false (is_root from) (is_root to) (untrue (is_root from || is_root to) Root (first_passed _ (node_tests ns.nodes from ++ under) h.fits.0)) in
       let behind = back_passed (node_tests ns.nodes from) under (rest_passed (when (is_root from || is_root to) Root) (node_tests ns.nodes from ++ under) h.fits.0) in
       record {
         there = h.target.0;
         below_root = λ e. (let is : is_root from ≡ true = ap is_root (sym h.target.1 ∙ e) in cc (root, is));
         to = h.target.2.0;
         free = subst (λ (p : Names). first_of (free_tests ns.nodes p) ≡ None) h.target.2.1 (front_passed (free_tests ns.nodes to) last (rest_passed (when (is_above from to) Under) (free_tests ns.nodes to ++ last) behind));
-        outside = (λ i. is_under (h.target.1 i) (place parent)) ∙ outside from (place parent) name (subst (λ (d : Names). is_above from d ≡ false) h.target.2.1 (not_so (is_above from to) Under (first_passed _ (free_tests ns.nodes to ++ last) behind)));
+        outside = (λ i. is_under (h.target.1 i) (place parent)) ∙ outside from (place parent) name (subst (λ (d : Names). is_above from d ≡ false) h.target.2.1 (untrue (is_above from to) Under (first_passed _ (free_tests ns.nodes to ++ last) behind)));
       }

@@ -9,7 +9,8 @@ use Rattle.std.proofs.Math.Seq.{append_snoc}
 use Rattle.std.proofs.lemmas.Bool.Decides.{nat_tests}
 use Rattle.std.specs.Prelude.{nat_le}
 use Rattle.std.specs.Cmp.Lexicographic.{bytes_decides}
-use Rattle.nn_base.specs.Paths.{Names, Bytes, is_under, is_name, joined, name_cmp, path_cmp}
+use Rattle.nn_base.specs.Paths.{Names, Bytes, is_under, joined, name_cmp, path_cmp}
+use Rattle.nn_base.proofs.PlainLemmas.{is_less}
 use Rattle.nn_tree.specs.declared.spot.Spot.{Spot}
 use Rattle.nn_tree.specs.declared.node.Node.{Node}
 use Rattle.nn_tree.specs.Namespace.{Nodes, IsNamespace}
@@ -17,6 +18,7 @@ use Rattle.nn_tree.specs.Changes.{moved}
 use Rattle.nn_tree.specs.Spots.{last_name, IsNextChild}
 use Rattle.nn_tree.specs.Totals.{total}
 use Rattle.nn_tree.proofs.LinksLemmas.{names_total, names_exact, paths_total, paths_exact}
+use Rattle.nn_tree.proofs.OrderLemmas.{name_above, under_front}
 use Rattle.nn_tree.proofs.PrefixLemmas.{under_split, moved_in}
 use Rattle.nn_ops.specs.Bounds.{is_short, is_short_by, moves_short, TellsShort}
 use Rattle.nn_ops.proofs.EntriesLemmas.{all_by_get, not_all_by_get, fewer}
@@ -55,11 +57,6 @@ last_name_push [] x = refl
 last_name_push (y ∷ []) x = refl
 last_name_push (y ∷ z ∷ p) x = last_name_push (z ∷ p) x
 
--- a name is above the empty one
-above_empty : (name : Bytes) → is_name name ≡ true → name_cmp [] name ≡ Less
-above_empty [] h = cc
-above_empty (b ∷ name) h = refl
-
 -- ---- the walk
 
 -- the next child, if there is one
@@ -92,8 +89,8 @@ module _ (m : Nodes) (sound : IsNamespace m) (p : Names) (levels size : ℕ) (pl
       h.least name above (child_there name rest there) (sym (push_cmp p name h.name) ∙ ap (path_cmp (p ++ name ∷ [])) (sym h.at) ∙ before)
 
   pub started : (has : Spot → Bool) (o : Option Spot) → IsNextChild o has place m p [] → SoFar m p levels size place o
-  started has None h = λ name rest there. absurd (no_between has [] None h name rest there (above_empty name (sound.names p name (child_there name rest there))) tt)
-  started has (Some s) h = λ name rest there before. absurd (no_between has [] (Some s) h name rest there (above_empty name (sound.names p name (child_there name rest there))) before)
+  started has None h = λ name rest there. absurd (no_between has [] None h name rest there (name_above name (sound.names p name (child_there name rest there))) tt)
+  started has (Some s) h = λ name rest there before. absurd (no_between has [] (Some s) h name rest there (name_above name (sound.names p name (child_there name rest there))) before)
 
   module _ (c : Spot) (x : Bytes) (at : place c ≡ p ++ x ∷ []) (done : SoFar m p levels size place (Some c)) (below : TellsShort true m (place c) (levels + 1) (size + 1 + length x)) where
     -- a child up to the last one
@@ -130,11 +127,6 @@ abbrev pub behind : (Spot → Names) → Nodes → Option Spot → ℕ
 behind place m None = 0
 behind place m (Some s) = 1 + total (λ (q : Names) (x : Node). cond (is_lt (path_cmp (place s) q)) 1 0) m
 
-is_less : (r : Ordering) → is_lt r ≡ true → r ≡ Less
-is_less Less h = refl
-is_less Equal h = cc
-is_less Greater h = cc
-
 pub fewer_behind : (m : Nodes) (p : Names) (has : Spot → Bool) (place : Spot → Names) (c : Spot) (x : Bytes) (o : Option Spot) → ((s : Spot) → has s ≡ true → is_some (get m (place s)) ≡ true)
     → place c ≡ p ++ x ∷ [] → IsNextChild o has place m p x → behind place m o < behind place m (Some c)
 fewer_behind m p has place c x None named at h = omega arith
@@ -159,12 +151,8 @@ joined_append (x ∷ d) r = omega (arith, length-append x (joined (d ++ r)), len
 short_moved : (d rest : Names) → is_short (d ++ rest) ≡ is_short_by (length d) (length (joined d)) rest
 short_moved d rest = λ i. nat_le (length-append d rest i) 1000 && nat_le (joined_append d rest i) 8000
 
-under_append : (s rest : Names) → is_under s (s ++ rest) ≡ true
-under_append [] rest = refl
-under_append (x ∷ s) rest = (λ i. (bytes_decides x x).1 refl i && under_append s rest i)
-
 moved_append : (s d rest : Names) → moved s d (s ++ rest) ≡ d ++ rest
-moved_append s d rest = moved_in s d (s ++ rest) (under_append s rest) ∙ ap (λ r. d ++ r) (drop_front s rest)
+moved_append s d rest = moved_in s d (s ++ rest) (under_front s rest) ∙ ap (λ r. d ++ r) (drop_front s rest)
   where
     drop_front : (s rest : Names) → drop (length s) (s ++ rest) ≡ rest
     drop_front [] rest = refl
@@ -186,4 +174,4 @@ told_moves false m s d h = by (get m (s ++ h.0)) refl h.1
     by : (o : Option Node) → get m (s ++ h.0) ≡ o → is_some o ≡ true → false ≡ moves_short m s d
     by None is there = cc
     by (Some x) is there = sym (not_all_by_get paths_total paths_exact (λ e. not (is_under s e.0) || is_short (moved s d e.0)) m (s ++ h.0) x is
-        ((λ i. not (under_append s h.0 i) || is_short (moved_append s d h.0 i)) ∙ short_moved d h.0 ∙ h.2))
+        ((λ i. not (under_front s h.0 i) || is_short (moved_append s d h.0 i)) ∙ short_moved d h.0 ∙ h.2))

@@ -14,7 +14,8 @@ use Rattle.nn_tree.specs.Namespace.{Nodes, is_dir_at, IsNamespace}
 use Rattle.nn_tree.specs.Walks.{Obstacle, Absent, AFile, obstacle, obstacle_from}
 use Rattle.nn_ops.specs.declared.refusal.OpRefusal.TheVariants.{Exists, NotFound}
 use Rattle.nn_ops.specs.Above.{parent_of}
-use Rattle.nn_ops.specs.Refusals.{when, first_of, refusal_by}
+use Rattle.nn_base.specs.First.{when, first_of}
+use Rattle.nn_ops.specs.Refusals.{refusal_by}
 use Rattle.nn_ops.specs.Commands.{free_tests}
 
 -- ---- a path is the one above it, and a name

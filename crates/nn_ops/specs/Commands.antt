@@ -12,8 +12,9 @@ use Rattle.nn_ops.specs.declared.command.Command.TheVariants.{Mkdir, Create, Add
 use Rattle.nn_ops.specs.declared.refusal.OpRefusal.TheVariants.{Exists, NotFound, NotDir, IsDir, Under, Root, Closed, Quota, Limit}
 use Rattle.nn_ops.specs.Above.{is_above, has_room, has_room_but, one_name, bytes_more}
 use Rattle.nn_ops.specs.Bounds.{is_full, is_full_at, is_bad_replication, is_bad_length, is_zero, moves_short}
-use Rattle.nn_ops.specs.Changes.{IsQuota}
-use Rattle.nn_ops.specs.Refusals.{Test, when, walk}
+use Rattle.nn_quota.specs.Quotas.{IsQuota}
+use Rattle.nn_base.specs.First.{when}
+use Rattle.nn_ops.specs.Refusals.{Test, walk}
 
 -- the ranges of the numbers in a command: a mode is at most 1777 (octal), a quota below 2^63
 abbrev pub IsCommand : Command → Type 0

@@ -1,6 +1,6 @@
 -- When a plan is ready: its body fits, it works on the nodes at its paths, and the tree has room for it.
 use Rattle.std.specs.Prelude.{◌≡◌, ◌≢◌, ◌<◌, Bool, true, false, [], ◌∷◌, ◌++◌, length, None}
-use Rattle.nn_base.specs.Paths.{Names, Bytes, is_under}
+use Rattle.nn_base.specs.Paths.{Names, Bytes, IsPath, is_under}
 use Rattle.nn_tree.specs.declared.spot.Spot.{Spot}
 use Rattle.nn_tree.specs.declared.node.Block.{Block}
 use Rattle.nn_tree.specs.declared.node.Change.{Change}
@@ -19,7 +19,7 @@ use Rattle.nn_ops.specs.declared.plan.Target.{Target}
 use Rattle.nn_ops.specs.declared.plan.Target.TheVariants.{New, At, Move}
 use Rattle.nn_ops.specs.Bounds.{blocks_at}
 use Rattle.nn_ops.specs.Changes.{IsChange}
-use Rattle.nn_ops.specs.Refusals.{first_of}
+use Rattle.nn_base.specs.First.{first_of}
 use Rattle.nn_ops.specs.Commands.{free_tests}
 use Rattle.nn_ops.specs.Effects.{new_node}
 use Rattle.nn_ops.specs.Step.{Fits}
@@ -67,9 +67,25 @@ IsTarget (SetQuota path quota) target has place spare = IsAt target path has pla
 IsTarget EndLogSegment target has place spare = ⊥
 IsTarget StartLogSegment target has place spare = ⊥
 
+-- the path of a body, the new one of what moves; the marks of a segment have none
+abbrev pub path_of : Op → Names
+path_of (Add inode path replication time owner group mode) = path
+path_of (RenameOld from to time) = to
+path_of (Delete path time) = path
+path_of (Mkdir inode path time owner group mode) = path
+path_of (SetReplication path replication) = path
+path_of (SetPermissions path mode) = path
+path_of (SetOwner path owner group) = path
+path_of (Close path time) = path
+path_of (SetQuota path quota) = path
+path_of EndLogSegment = []
+path_of StartLogSegment = []
+path_of (AddBlock path id stamp length) = path
+
 pub record IsReady (plan : Plan) (has : Spot → Bool) (place : Spot → Names) (spare : Spare) (ns : Namespace) : Type 0 where
   pub fits : Fits ns plan.op
   pub bounds : IsOp plan.op
+  pub path : IsPath (path_of plan.op)
   pub target : IsTarget plan.op plan.target has place spare
 
 -- ---- what the single works need

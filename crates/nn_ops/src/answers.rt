@@ -1,6 +1,6 @@
 // The answer to a command, before anything is done.
 ghost use Rattle.std.specs.Prelude.{◌≡◌, ◌≢◌, ◌<◌, ◌^◌, IfOk, IfErr, OnOk, None, Some};
-ghost use Rattle.nn_ops.specs.Bodies.{body_of};
+ghost use Rattle.nn_ops.specs.Bodies.{op_of};
 ghost use Rattle.nn_ops.specs.Commands.{IsCommand};
 ghost use Rattle.nn_ops.specs.Plans.{IsReady};
 ghost use Rattle.nn_ops.specs.Step.{refusal_of};
@@ -25,7 +25,7 @@ pub fn prepare<T: Tree>(
     requires command { IsCommand command.now }
     requires now { now < 2 ^ 63 }
     ensures ok { OnOk result (refusal_of (T.meaning tree.old) command.now ≡ None) }
-    ensures body { IfOk result (λ plan. plan.op ≡ body_of (T.meaning tree.old) command.now now) }
+    ensures body { IfOk result (λ plan. plan.op ≡ op_of (T.meaning tree.old) command.now now) }
     ensures ready { IfOk result (λ plan. IsReady plan (T.has tree.new) (T.place tree.new) (T.spare tree.new) (T.meaning tree.new)) }
     ensures err { IfErr result (λ refusal. refusal ≢ OpRefusal.Memory → refusal_of (T.meaning tree.old) command.now ≡ Some refusal) }
     ensures kept { T.meaning tree.new ≡ T.meaning tree.old }

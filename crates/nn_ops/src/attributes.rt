@@ -3,7 +3,7 @@ ghost use Rattle.std.specs.Prelude.{◌≡◌, ◌≢◌, ◌<◌, ◌≤◌, �
 ghost use Rattle.nn_tree.specs.Limits.{IsKind};
 ghost use Rattle.nn_tree.specs.Nodes.{blocks_of, length_of, space_of};
 ghost use Rattle.nn_ops.specs.Bounds.{is_zero};
-ghost use Rattle.nn_ops.specs.Changes.{IsQuota};
+ghost use Rattle.nn_quota.specs.Quotas.{IsQuota};
 ghost use Rattle.nn_ops.specs.Plans.{IsReady};
 ghost use Rattle.nn_ops.specs.Step.{refusal_of};
 ghost use Rattle.nn_ops.specs.declared.command.Command.{Command};

@@ -1,5 +1,6 @@
 // Paths and names in memory of their own.
 ghost use Rattle.std.specs.Prelude.{◌≡◌, ◌<◌, ◌++◌, ◌∷◌, [], length, take, IfOk};
+ghost use Rattle.nn_base.specs.Paths.{IsPath};
 ghost use Rattle.nn_ops.specs.Above.{parent_of};
 
 use crate::OpRefusal;
@@ -8,7 +9,8 @@ use std::alloc::Global;
 
 /// The same path in memory of its own.
 pub(crate) fn copy_path(alloc: Global, path: &Path) -> Result<Path, NoMemory>
-    ensures { IfOk result (λ copy. copy ≡ path.now) }
+    ensures same { IfOk result (λ copy. copy ≡ path.now) }
+    ensures path { IfOk result (λ copy. IsPath copy) }
 {
     let mut names = Vec::new(alloc);
     for k in 0..path.depth() {

@@ -1,5 +1,6 @@
 // Doing what was planned.
 ghost use Rattle.std.specs.Prelude.{◌≡◌};
+ghost use Rattle.nn_tree.specs.Imaged.{IsImaged};
 ghost use Rattle.nn_ops.specs.Effects.{effect};
 ghost use Rattle.nn_ops.specs.Plans.{IsReady};
 ghost use Rattle.nn_ops.specs.declared.plan.Target.TheVariants.{At};
@@ -9,8 +10,16 @@ use crate::work::{add_block, change_node, move_node, put, remove_node};
 use nn_record::Op;
 use nn_tree::{Block, Change, Spot, Tree};
 
-/// Does what was planned, and takes no memory. The plan is one that `prepare` made for this tree, and nothing changed the tree since.
+/// Does what was planned, and takes no memory. The plan is one that `prepare` made for this tree, and nothing changed the tree since. A namespace that could be saved still can.
 pub fn apply<T: Tree>(tree: &mut T, plan: Plan)
+    requires { IsReady plan (T.has tree.old) (T.place tree.old) (T.spare tree.old) (T.meaning tree.old) }
+    ensures done { T.meaning tree.new ≡ effect plan.op (T.meaning tree.old) }
+    ensures imaged { IsImaged (T.meaning tree.old) → IsImaged (T.meaning tree.new) }
+{
+    carry_out(tree, plan);
+}
+
+fn carry_out<T: Tree>(tree: &mut T, plan: Plan)
     requires { IsReady plan (T.has tree.old) (T.place tree.old) (T.spare tree.old) (T.meaning tree.old) }
     ensures { T.meaning tree.new ≡ effect plan.op (T.meaning tree.old) }
 {

@@ -16,8 +16,6 @@ mod refusal;
 mod rename;
 mod replayed;
 mod room;
-#[cfg(test)]
-mod tests;
 mod work;
 
 pub use answers::prepare;

@@ -2,7 +2,7 @@
 ghost use Rattle.std.specs.Prelude.{◌≡◌, ◌≢◌, ◌<◌, ◌≤◌, ◌+◌, ◌^◌, ◌∷◌, ◌++◌, [], true, IfOk, IfErr, OnOk, None, Some};
 ghost use Rattle.nn_tree.specs.Namespace.{hdfs};
 ghost use Rattle.nn_tree.specs.Nodes.{no_quota};
-ghost use Rattle.nn_ops.specs.Bodies.{body_of};
+ghost use Rattle.nn_ops.specs.Bodies.{op_of};
 ghost use Rattle.nn_ops.specs.Plans.{IsReady};
 ghost use Rattle.nn_ops.specs.Step.{refusal_of};
 ghost use Rattle.nn_tree.specs.declared.node.Kind.{Kind};
@@ -37,7 +37,7 @@ pub(crate) fn prepare_mkdir<T: Tree>(
     now: u64,
 ) -> Result<Plan, OpRefusal>
     requires { now < 2 ^ 63 }
-    ensures body { IfOk result (λ plan. plan.op ≡ body_of (T.meaning tree.old) (Command.Mkdir path.now) now) }
+    ensures body { IfOk result (λ plan. plan.op ≡ op_of (T.meaning tree.old) (Command.Mkdir path.now) now) }
     ensures ready { IfOk result (λ plan. IsReady plan (T.has tree.new) (T.place tree.new) (T.spare tree.new) (T.meaning tree.new)) }
     ensures err { IfErr result (λ r. r ≢ OpRefusal.Memory → refusal_of (T.meaning tree.old) (Command.Mkdir path.now) ≡ Some r) }
     ensures means { T.meaning tree.new ≡ T.meaning tree.old }
@@ -108,7 +108,7 @@ pub(crate) fn prepare_create<T: Tree>(
     now: u64,
 ) -> Result<Plan, OpRefusal>
     requires { now < 2 ^ 63 }
-    ensures body { IfOk result (λ plan. plan.op ≡ body_of (T.meaning tree.old) (Command.Create path.now replication) now) }
+    ensures body { IfOk result (λ plan. plan.op ≡ op_of (T.meaning tree.old) (Command.Create path.now replication) now) }
     ensures ready { IfOk result (λ plan. IsReady plan (T.has tree.new) (T.place tree.new) (T.spare tree.new) (T.meaning tree.new)) }
     ensures err { IfErr result (λ r. r ≢ OpRefusal.Memory → refusal_of (T.meaning tree.old) (Command.Create path.now replication) ≡ Some r) }
     ensures means { T.meaning tree.new ≡ T.meaning tree.old }

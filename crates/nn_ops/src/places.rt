@@ -4,7 +4,7 @@ ghost use Rattle.std.specs.FinMap as map;
 ghost use Rattle.nn_tree.specs.Walks.{obstacle, AFile};
 ghost use Rattle.nn_ops.specs.Above.{parent_of};
 ghost use Rattle.nn_ops.specs.Commands.{free_tests, node_tests, file_tests, open_tests, is_open, is_root};
-ghost use Rattle.nn_ops.specs.Refusals.{first_of};
+ghost use Rattle.nn_base.specs.First.{first_of};
 
 use crate::OpRefusal;
 use nn_base::Path;

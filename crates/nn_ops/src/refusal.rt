@@ -1,9 +1,7 @@
 // Why a command isn't taken.
 ghost use Rattle.std.specs.Prelude.{◌≡◌};
-ghost use Rattle.nn_ops.specs.declared.refusal.OpRefusal.TheVariants.{Memory};
 
-use nn_base::NoMemory;
-use std::alloc::{AllocError, AllocFailed};
+use nn_base::OutOfMemory;
 
 /// Why a command isn't taken. Each command makes its tests in an order of its own, and the first that applies is told.
 #[derive(Clone, Copy, Debug, PartialEq, Eq)]
@@ -30,26 +28,12 @@ pub enum OpRefusal {
     Memory,
 }
 
-impl From<NoMemory> for OpRefusal {
+impl<M: OutOfMemory + Drop> From<M> for OpRefusal {
+    ghost use Rattle.nn_ops.specs.declared.refusal.OpRefusal.TheVariants.{Memory};
+
     ghost from_gives = { λ _ refusal. refusal ≡ Memory };
 
-    fn from(_: NoMemory) -> OpRefusal {
-        OpRefusal::Memory
-    }
-}
-
-impl From<AllocError> for OpRefusal {
-    ghost from_gives = { λ _ refusal. refusal ≡ Memory };
-
-    fn from(_: AllocError) -> OpRefusal {
-        OpRefusal::Memory
-    }
-}
-
-impl<T: Drop> From<AllocFailed<T>> for OpRefusal {
-    ghost from_gives = { λ _ refusal. refusal ≡ Memory };
-
-    fn from(_: AllocFailed<T>) -> OpRefusal {
+    fn from(_: M) -> OpRefusal {
         OpRefusal::Memory
     }
 }

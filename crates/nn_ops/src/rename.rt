@@ -3,11 +3,11 @@ ghost use Rattle.std.specs.Prelude.{◌≡◌, ◌≢◌, ◌<◌, ◌≤◌, �
 ghost use Rattle.nn_base.specs.Paths.{joined, is_under};
 ghost use Rattle.nn_tree.specs.Namespace.{usage_of};
 ghost use Rattle.nn_ops.specs.Above.{parent_of, is_above, shared, has_room_but};
-ghost use Rattle.nn_ops.specs.Bodies.{body_of};
+ghost use Rattle.nn_ops.specs.Bodies.{op_of};
 ghost use Rattle.nn_ops.specs.Bounds.{moves_short, TellsShort};
 ghost use Rattle.nn_ops.specs.Commands.{moved_tests};
 ghost use Rattle.nn_ops.specs.Plans.{IsReady};
-ghost use Rattle.nn_ops.specs.Refusals.{first_of};
+ghost use Rattle.nn_base.specs.First.{first_of};
 ghost use Rattle.nn_ops.specs.Step.{refusal_of};
 ghost use Rattle.nn_ops.specs.declared.command.Command.{Command};
 
@@ -17,15 +17,10 @@ use crate::places::{free_place, is_root, node_at};
 use crate::plan::{Plan, Target};
 use crate::room::fits_at;
 use nn_base::Path;
+use nn_base::limits::{MOST_LEVELS, MOST_PATH};
 use nn_record::Op;
 use nn_tree::{Spot, Tree};
 use std::alloc::Global;
-
-/// The most levels of a path (HDFS's `MAX_PATH_DEPTH`).
-const MOST_LEVELS: usize = 1000;
-
-/// The most bytes of a path's text (`MAX_PATH_LENGTH`).
-const MOST_BYTES: usize = 8000;
 
 /// How many names two paths have in common, from the root on.
 fn shared(a: &Path, b: &Path) -> usize
@@ -90,7 +85,7 @@ fn below_is_short<T: Tree>(tree: &T, at: Spot, levels: usize, size: usize) -> bo
         if levels == MOST_LEVELS {
             return false;
         }
-        if MOST_BYTES < longer {
+        if MOST_PATH < longer {
             return false;
         }
         if !below_is_short(tree, child, levels + 1, longer) {
@@ -145,7 +140,7 @@ pub(crate) fn prepare_rename<T: Tree>(
     now: u64,
 ) -> Result<Plan, OpRefusal>
     requires { now < 2 ^ 63 }
-    ensures body { IfOk result (λ plan. plan.op ≡ body_of (T.meaning tree.now) (Command.Rename from.now to.now) now) }
+    ensures body { IfOk result (λ plan. plan.op ≡ op_of (T.meaning tree.now) (Command.Rename from.now to.now) now) }
     ensures ready { IfOk result (λ plan. IsReady plan (T.has tree.now) (T.place tree.now) (T.spare tree.now) (T.meaning tree.now)) }
     ensures err { IfErr result (λ r. r ≢ OpRefusal.Memory → refusal_of (T.meaning tree.now) (Command.Rename from.now to.now) ≡ Some r) }
 {

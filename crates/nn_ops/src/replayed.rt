@@ -1,16 +1,16 @@
 // Doing again what a record says.
 ghost use Rattle.std.specs.Prelude.{◌≡◌, ◌≢◌, ◌<◌, ◌^◌, true, Some, None, IfOk, IfErr, OnOk, OnErr};
-ghost use Rattle.nn_ops.specs.declared.replayed.Clash.TheVariants.{Memory};
 ghost use Rattle.nn_record.specs.Ops.{IsOp};
-ghost use Rattle.nn_ops.specs.Bodies.{command_of, time_of};
+ghost use Rattle.nn_tree.specs.Imaged.{IsImaged};
+ghost use Rattle.nn_ops.specs.Bodies.{command_of_op, time_of};
 ghost use Rattle.nn_ops.specs.Commands.{IsCommand};
 ghost use Rattle.nn_ops.specs.Effects.{effect};
-ghost use Rattle.nn_ops.specs.Replays.{choice_of, no_choice};
+ghost use Rattle.nn_ops.specs.Replays.{assigned_by, none_assigned};
 ghost use Rattle.nn_ops.specs.Step.{Fits};
 
 use crate::copies::copy_path;
 use crate::{Command, OpRefusal, apply, prepare};
-use nn_base::{Label, NoMemory};
+use nn_base::{Label, NoMemory, OutOfMemory};
 use nn_record::Op;
 use nn_tree::Tree;
 use std::alloc::Global;
@@ -24,17 +24,19 @@ pub enum Clash {
     Memory,
 }
 
-impl From<NoMemory> for Clash {
+impl<M: OutOfMemory + Drop> From<M> for Clash {
+    ghost use Rattle.nn_ops.specs.declared.replayed.Clash.TheVariants.{Memory};
+
     ghost from_gives = { λ _ clash. clash ≡ Memory };
 
-    fn from(_: NoMemory) -> Clash {
+    fn from(_: M) -> Clash {
         Clash::Memory
     }
 }
 
 /// What a body holds beyond its command and its time.
 #[derive(Drop)]
-struct Choice {
+struct Assigned {
     /// The id of the new node or block.
     first: u64,
     /// The generation stamp of a new block.
@@ -44,8 +46,8 @@ struct Choice {
     labels: Option<(Label, Label)>,
 }
 
-fn choice_in(op: &Op) -> Choice
-    ensures { result ≡ choice_of op.now }
+fn assigned_in(op: &Op) -> Assigned
+    ensures { result ≡ assigned_by op.now }
 {
     match op {
         Op::Add {
@@ -54,36 +56,36 @@ fn choice_in(op: &Op) -> Choice
             group,
             mode,
             ..
-        } => node_choice(*inode, *owner, *group, *mode),
+        } => node_assigned(*inode, *owner, *group, *mode),
         Op::Mkdir {
             inode,
             owner,
             group,
             mode,
             ..
-        } => node_choice(*inode, *owner, *group, *mode),
-        Op::AddBlock { id, stamp, .. } => Choice {
+        } => node_assigned(*inode, *owner, *group, *mode),
+        Op::AddBlock { id, stamp, .. } => Assigned {
             first: *id,
             second: *stamp,
             mode: 0,
             labels: None,
         },
-        Op::RenameOld { .. } => no_choice(),
-        Op::Delete { .. } => no_choice(),
-        Op::SetReplication { .. } => no_choice(),
-        Op::SetPermissions { .. } => no_choice(),
-        Op::SetOwner { .. } => no_choice(),
-        Op::Close { .. } => no_choice(),
-        Op::SetQuota { .. } => no_choice(),
-        Op::EndLogSegment => no_choice(),
-        Op::StartLogSegment => no_choice(),
+        Op::RenameOld { .. } => none_assigned(),
+        Op::Delete { .. } => none_assigned(),
+        Op::SetReplication { .. } => none_assigned(),
+        Op::SetPermissions { .. } => none_assigned(),
+        Op::SetOwner { .. } => none_assigned(),
+        Op::Close { .. } => none_assigned(),
+        Op::SetQuota { .. } => none_assigned(),
+        Op::EndLogSegment => none_assigned(),
+        Op::StartLogSegment => none_assigned(),
     }
 }
 
-fn node_choice(first: u64, owner: Label, group: Label, mode: u16) -> Choice
+fn node_assigned(first: u64, owner: Label, group: Label, mode: u16) -> Assigned
     ensures { result ≡ record { first = first; second = 0; mode = mode; labels = Some (owner, group) } }
 {
-    Choice {
+    Assigned {
         first,
         second: 0,
         mode,
@@ -91,10 +93,10 @@ fn node_choice(first: u64, owner: Label, group: Label, mode: u16) -> Choice
     }
 }
 
-fn no_choice() -> Choice
-    ensures { result ≡ no_choice }
+fn none_assigned() -> Assigned
+    ensures { result ≡ none_assigned }
 {
-    Choice {
+    Assigned {
         first: 0,
         second: 0,
         mode: 0,
@@ -124,7 +126,7 @@ fn same_labels(a: &Option<(Label, Label)>, b: &Option<(Label, Label)>) -> bool
     }
 }
 
-fn same_choice(a: &Choice, b: &Choice) -> bool
+fn same_assigned(a: &Assigned, b: &Assigned) -> bool
     ensures same { result ≡ true → a.now ≡ b.now }
     ensures other { a.now ≡ b.now → result ≡ true }
 {
@@ -136,7 +138,7 @@ fn same_choice(a: &Choice, b: &Choice) -> bool
 
 /// The command that a body is of. `None` stands for the marks of a segment.
 fn command_in(alloc: Global, op: &Op) -> Result<Option<Command>, NoMemory>
-    ensures { IfOk result (λ command. command ≡ command_of op.now) }
+    ensures { IfOk result (λ command. command ≡ command_of_op op.now) }
 {
     Ok(Some(match op {
         Op::Add {
@@ -211,6 +213,7 @@ pub fn replay<T: Tree>(alloc: Global, tree: &mut T, op: &Op) -> Result<(), Clash
     requires { IsOp op.now }
     ensures ok { OnOk result (Fits (T.meaning tree.old) op.now) }
     ensures after { OnOk result (T.meaning tree.new ≡ effect op.now (T.meaning tree.old)) }
+    ensures imaged { IsImaged (T.meaning tree.old) → IsImaged (T.meaning tree.new) }
     ensures err { IfErr result (λ clash. clash ≡ Clash.Refused → Fits (T.meaning tree.old) op.now → ⊥) }
     ensures kept { OnErr result (T.meaning tree.new ≡ T.meaning tree.old) }
 {
@@ -219,7 +222,7 @@ pub fn replay<T: Tree>(alloc: Global, tree: &mut T, op: &Op) -> Result<(), Clash
     };
     match prepare(alloc, tree, &command, time_in(op)) {
         Ok(plan) => {
-            if !same_choice(&choice_in(plan.op()), &choice_in(op)) {
+            if !same_assigned(&assigned_in(plan.op()), &assigned_in(op)) {
                 return Err(Clash::Refused);
             }
             apply(tree, plan);
@@ -231,7 +234,8 @@ pub fn replay<T: Tree>(alloc: Global, tree: &mut T, op: &Op) -> Result<(), Clash
 
 /// Want of memory stays that, and every other refusal is one of the body.
 fn told(refusal: OpRefusal) -> Clash
-    ensures { result ≡ Clash.Refused → refusal ≢ OpRefusal.Memory }
+    ensures refused { result ≡ Clash.Refused → refusal ≢ OpRefusal.Memory }
+    ensures memory { result ≡ Clash.Memory → refusal ≡ OpRefusal.Memory }
 {
     match refusal {
         OpRefusal::Memory => Clash::Memory,

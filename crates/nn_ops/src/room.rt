@@ -4,22 +4,16 @@ ghost use Rattle.nn_tree.specs.Namespace.{node_count};
 ghost use Rattle.nn_ops.specs.Above.{parent_of, has_room, has_room_at};
 ghost use Rattle.nn_ops.specs.Bounds.{is_full, is_full_at, is_bad_replication, is_bad_length};
 ghost use Rattle.nn_ops.specs.Commands.{room_tests};
-ghost use Rattle.nn_ops.specs.Refusals.{first_of};
+ghost use Rattle.nn_base.specs.First.{first_of};
 
 use crate::OpRefusal;
 use nn_base::Path;
+use nn_base::limits::{
+    MOST_BLOCK_LENGTH, MOST_BLOCKS, MOST_BLOCKS_OF_FILE, MOST_NODES, MOST_REPLICATION,
+};
 use nn_quota::{Usage, fits};
 use nn_tree::{Spot, Tree, Walk};
 use std::alloc::Global;
-
-/// The greatest number of nodes of a namespace.
-const MOST_NODES: u64 = 1_048_576;
-
-/// The greatest number of blocks of a file (`dfs.namenode.fs-limits.max-blocks-per-file`).
-const MOST_BLOCKS_OF_A_FILE: usize = 10_000;
-
-/// The greatest number of blocks of a namespace.
-const MOST_BLOCKS: u64 = 8_388_608;
 
 /// The last number that a counter may give: numbers are Hadoop's signed `long`s.
 const LAST: u64 = 9_223_372_036_854_775_807;
@@ -28,7 +22,7 @@ const LAST: u64 = 9_223_372_036_854_775_807;
 pub(crate) fn is_bad_replication(replication: u64) -> bool
     ensures { result ≡ is_bad_replication replication }
 {
-    replication == 0 || 512 < replication
+    replication == 0 || u64::from(MOST_REPLICATION) < replication
 }
 
 /// Whether a directory itself may take more.
@@ -77,7 +71,7 @@ fn is_full<T: Tree>(alloc: Global, tree: &T) -> bool
 pub(crate) fn is_bad_length(length: u64) -> bool
     ensures { result ≡ is_bad_length length }
 {
-    length == 0 || 1 << 40 < length
+    length == 0 || MOST_BLOCK_LENGTH < length
 }
 
 /// Whether a file takes no further block.
@@ -86,7 +80,7 @@ pub(crate) fn is_full_file<T: Tree>(tree: &T, at: Spot) -> bool
     ensures { result ≡ is_full_at (T.meaning tree.now) (T.place tree.now at) }
 {
     let counters = tree.counters();
-    MOST_BLOCKS_OF_A_FILE <= tree.node(at).kind.block_count()
+    MOST_BLOCKS_OF_FILE <= tree.node(at).kind.block_count()
         || MOST_BLOCKS <= tree.blocks()
         || LAST <= counters.block
         || LAST <= counters.stamp

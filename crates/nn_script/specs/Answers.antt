@@ -7,7 +7,8 @@ use Rattle.nn_tree.specs.declared.node.Node.{Node}
 use Rattle.nn_tree.specs.Namespace.{Namespace, Nodes, usage_of, empty_namespace}
 use Rattle.nn_ops.specs.declared.refusal.OpRefusal.{OpRefusal}
 use Rattle.nn_ops.specs.declared.refusal.OpRefusal.TheVariants.{NotFound}
-use Rattle.nn_ops.specs.Refusals.{when, first_of, walk}
+use Rattle.nn_base.specs.First.{when, first_of}
+use Rattle.nn_ops.specs.Refusals.{walk}
 use Rattle.nn_ops.specs.Step.{Outcome, step}
 use Rattle.nn_script.specs.declared.answer.Answer.TheVariants.{Done, Count, Refused, Dry, Unread}
 use Rattle.nn_script.specs.declared.command.ScriptCommand.{ScriptCommand}

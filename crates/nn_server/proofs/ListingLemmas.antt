@@ -16,7 +16,8 @@ use Rattle.nn_tree.specs.Spots.{last_name}
 use Rattle.nn_tree.specs.Below.{entries_below, visited}
 use Rattle.nn_ops.specs.declared.refusal.OpRefusal.{OpRefusal}
 use Rattle.nn_ops.specs.declared.refusal.OpRefusal.TheVariants.{NotFound}
-use Rattle.nn_ops.specs.Refusals.{when, first_of, refusal_by}
+use Rattle.nn_base.specs.First.{when, first_of}
+use Rattle.nn_ops.specs.Refusals.{refusal_by}
 use Rattle.nn_script.specs.Answers.{lines_at, list_refusal, list_text}
 use Rattle.nn_script.specs.Spelling.{answer_text}
 use Rattle.nn_script.specs.declared.answer.Answer.TheVariants.{Refused}

@@ -35,9 +35,10 @@ times_elsewhere id x other = ap one_if (ne_eqb id x other)
 
 none_so : (x : ℕ) (xs : List ℕ) → times x xs ≡ 0 → AllByRecursion (λ y. eqb x y ≡ false) xs
 none_so x [] none = tt
-none_so x (y ∷ xs) none =
-    (ne_eqb x y (λ is. (let a = times-cons x y xs in let b = times_here x y is in omega arith)),
-      none_so x xs (let a = times-cons x y xs in omega arith))
+none_so x (y ∷ xs) none = (
+  ne_eqb x y (λ is. (let a = times-cons x y xs in let b = times_here x y is in omega arith)),
+  none_so x xs (let a = times-cons x y xs in omega arith),
+)
 
 none_back : (x : ℕ) (xs : List ℕ) → AllByRecursion (λ y. eqb x y ≡ false) xs → times x xs ≡ 0
 none_back x [] apart = refl
@@ -50,9 +51,10 @@ none_back x (y ∷ xs) apart =
 pub distinct_so : (xs : List ℕ) → ((id : ℕ) → times id xs ≤ 1) → IsDistinct eqb xs
 unfolding IsDistinct
 distinct_so [] once = tt
-distinct_so (x ∷ xs) once =
-    (none_so x xs (let a = times-cons x x xs in let b = times_here x x refl in let c = once x in omega arith),
-      distinct_so xs (λ id. let a = times-cons id x xs in let c = once id in omega arith))
+distinct_so (x ∷ xs) once = (
+  none_so x xs (let a = times-cons x x xs in let b = times_here x x refl in let c = once x in omega arith),
+  distinct_so xs (λ id. let a = times-cons id x xs in let c = once id in omega arith),
+)
 
 at_most_once : (id x : ℕ) (xs : List ℕ) → times x xs ≡ 0 → times id xs ≤ 1 → times id (x ∷ xs) ≤ 1
 at_most_once id x xs none few = by (eqb id x) refl

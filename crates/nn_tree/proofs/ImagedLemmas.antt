@@ -61,20 +61,27 @@ module _ (ns : Namespace) (p : Names) (name : Bytes) (x : Node) where
     where
       named : is_name name ≡ true
       named = All-contains (λ name. is_name name ≡ true) (p ++ name ∷ []) name path.named (Contains-push p name)
+
       path_of : (q : Names) (y : Node) → ((q ≡ p ++ name ∷ []) × (x ≡ y)) ⊎ (get ns.nodes q ≡ Some y) → IsPath q
       path_of q y (inl is) = subst IsPath (sym is.0) path
       path_of q y (inr is) = h.paths q (ap is_some is)
+
       quota_at : (q : Names) (y : Node) → ((q ≡ p ++ name ∷ []) × (x ≡ y)) ⊎ (get ns.nodes q ≡ Some y) → HasQuota y.kind
       quota_at q y (inl is) = subst (λ (y : Node). HasQuota y.kind) is.1 quota
       quota_at q y (inr is) = h.quotas q y is
+
       old : AreNumbered ns
       old = numbered ns h
+
       none : (f : Block → ℕ) (id : ℕ) → times id (map f (blocks_of x.kind)) ≡ 0
       none f id = ap (λ bs. times id (map f bs)) empty
+
       same : (f : Block → ℕ) (id : ℕ) → uses (λ y. map f (blocks_of y.kind)) id with_new.nodes ≡ uses (λ y. map f (blocks_of y.kind)) id ns.nodes
       same f id = let a = uses_insert (λ y. map f (blocks_of y.kind)) id ns.nodes (p ++ name ∷ []) x free in let b = none f id in omega arith
+
       ids : (id : ℕ) → uses id_in id with_new.nodes ≡ one_if (eqb id x.id) + uses id_in id ns.nodes
       ids id = let a = uses_insert id_in id ns.nodes (p ++ name ∷ []) x free in let b = times_one id x.id in omega arith
+
       numbers : AreNumbered with_new
       numbers = record {
         inodes = record {
@@ -127,8 +134,10 @@ module _ (ns : Namespace) (p : Names) (g : Node → Node) (h : IsImaged ns) wher
     where
       old : AreNumbered ns
       old = numbered ns h
+
       same : (f : Node → List ℕ) (id : ℕ) → ((x : Node) → f (g x) ≡ f x) → uses f id (change_at p g ns.nodes) ≡ uses f id ns.nodes
       same f id is = uses_same f id ns.nodes p g is
+
       numbers : AreNumbered after
       numbers = record {
         inodes = record {
@@ -178,10 +187,13 @@ module _ (ns : Namespace) (p : Names) (block : Block) (x : Node) (h : IsImaged n
     where
       old : AreNumbered ns
       old = numbered ns h
+
       same : (id : ℕ) → uses id_in id with_block_more.nodes ≡ uses id_in id ns.nodes
       same id = uses_same id_in id ns.nodes p (with_block block) (λ y. refl)
+
       few : (f : Block → ℕ) (id : ℕ) → uses (λ y. map f (blocks_of y.kind)) id with_block_more.nodes ≤ one_if (eqb id (f block)) + uses (λ y. map f (blocks_of y.kind)) id ns.nodes
       few f id = let a = uses_change (λ y. map f (blocks_of y.kind)) id ns.nodes p (with_block block) x there in let b = few_added f id block x.kind in omega arith
+
       numbers : AreNumbered with_block_more
       numbers = record {
         inodes = record {
@@ -215,8 +227,10 @@ module _ (ns : Namespace) (p : Names) where
     where
       old : AreNumbered ns
       old = numbered ns h
+
       none : (f : Node → List ℕ) (id : ℕ) → uses f id ns.nodes ≡ 0 → uses f id without.nodes ≡ 0
       none f id is = let a = uses_cut f id ns.nodes p in omega arith
+
       numbers : AreNumbered without
       numbers = record {
         inodes = record {
@@ -269,15 +283,19 @@ module _ (ns : Namespace) (p q : Names) (name : Bytes) (can : CanGo ns.nodes p (
     where
       formed : IsNamespace (move p (q ++ name ∷ []) ns.nodes)
       formed = formed_move ns.nodes p q name can dir outside named
+
       short_of : (r : Names) (x : Node) → get ns.nodes r ≡ Some x → (b : Bool) → is_under p r ≡ b → IsShort (moved p (q ++ name ∷ []) r)
       short_of r x is true under = short r x is under
       short_of r x is false out =
           let path = h.paths r (ap is_some is) in
           subst IsShort (sym (moved_out p d r out)) (record { levels = path.levels; size = path.size })
+
       old : AreNumbered ns
       old = numbered ns h
+
       same : (f : Node → List ℕ) (id : ℕ) → uses f id with_moved.nodes ≡ uses f id ns.nodes
       same f id = total_moved ns.nodes p d can (λ x. times id (f x))
+
       numbers : AreNumbered with_moved
       numbers = record {
         inodes = record {

@@ -169,6 +169,3 @@ impl Tree for PlainTree {
         entry.name = Some(name);
     }
 }
-
-#[cfg(test)]
-mod tests;

@@ -19,8 +19,8 @@ returns-then-levels-eq-MOST_LEVELS g t c =
     let child = subst (λ (o : Option Spot). IsChild (g.T.Tree.has c.args.tree.now) place (place c.args.at) o) c.in-Some.is c.loop-next.invariant.0 in
     child_fails m (place c.args.at) (place c.in-Some.child) child.1.0 c.args.levels c.args.size child.1.1 (c.counters-counters.ensures.sound.named c.in-Some.child child.0) (too_deep c.args.levels c.args.size child.1.0 c.if-levels-eq-MOST_LEVELS.true)
 
-pub returns-then-longer-gt-MOST_BYTES : goal.returns-then-longer-gt-MOST_BYTES
-returns-then-longer-gt-MOST_BYTES g t c =
+pub returns-then-longer-gt-MOST_PATH : goal.returns-then-longer-gt-MOST_PATH
+returns-then-longer-gt-MOST_PATH g t c =
     let m = (g.T.Tree.meaning c.args.tree.now).nodes in
     let place = g.T.Tree.place c.args.tree.now in
     let child = subst (λ (o : Option Spot). IsChild (g.T.Tree.has c.args.tree.now) place (place c.args.at) o) c.in-Some.is c.loop-next.invariant.0 in

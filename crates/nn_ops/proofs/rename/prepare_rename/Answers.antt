@@ -22,4 +22,4 @@ returns-clause-ready g c =
     let short : moves_short ns.nodes from to ≡ true = ap (λ (p : Names). moves_short ns.nodes p to) (sym c.in_ok-at.ensures.at) ∙ sym c.if-not-moves_short.ensures in
     move_ready ns (g.T.Tree.has c.args.tree.now) (g.T.Tree.place c.args.tree.now) (g.T.Tree.spare c.args.tree.now) c.in_ok-at.at c.in_ok-parent.parent c.in_ok-name.name from to c.in_ok-from.from c.in_ok-to.to c.args.now
     (all_passed ns from to c.in_ok-at.ensures.ok c.in_ok-parent.ensures.ok short (sym c.if-not-fits_move.ensures))
-    c.in_ok-from.ensures c.in_ok-to.ensures c.in_ok-at.ensures.there c.in_ok-at.ensures.at c.in_ok-parent.ensures.there c.in_ok-parent.ensures.above c.in_ok-name.ensures c.requires
+    c.in_ok-from.ensures.same c.in_ok-to.ensures.same c.in_ok-at.ensures.there c.in_ok-at.ensures.at c.in_ok-parent.ensures.there c.in_ok-parent.ensures.above c.in_ok-name.ensures c.in_ok-to.ensures.path c.requires

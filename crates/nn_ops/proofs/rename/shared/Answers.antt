@@ -8,9 +8,9 @@ is_not : (b : Bool) → true ≡ not b → b ≡ false
 is_not true h = cc
 is_not false h = refl
 
-is_so : (b : Bool) → false ≡ not b → b ≡ true
-is_so true h = refl
-is_so false h = cc
+true_instead : (b : Bool) → false ≡ not b → b ≡ true
+true_instead true h = refl
+true_instead false h = cc
 
 pub returns-then-ne : goal.returns-then-ne
 returns-then-ne c =
@@ -19,7 +19,7 @@ returns-then-ne c =
 
 pub loop-k-preserved : goal.loop-k-preserved
 loop-k-preserved c =
-    let same : pointwise nat_eq c.name.result.now c.name-in-loop-k.result.now ≡ true = (λ i. pointwise nat_eq (sym c.bytes.ensures.value i) (sym c.bytes-in-loop-k.ensures.value i)) ∙ is_so _ c.if-ne.ensures in
+    let same : pointwise nat_eq c.name.result.now c.name-in-loop-k.result.now ≡ true = (λ i. pointwise nat_eq (sym c.bytes.ensures.value i) (sym c.bytes-in-loop-k.ensures.value i)) ∙ true_instead _ c.if-ne.ensures in
     shared_more c.args.a.now c.args.b.now c.loop-k.k c.name.result.now c.name-in-loop-k.result.now c.name.ensures c.name-in-loop-k.ensures same c.loop-k.invariant
 
 pub returns : goal.returns

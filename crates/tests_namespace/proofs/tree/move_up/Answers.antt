@@ -2,7 +2,7 @@ use Rattle.std.proofs.Common.{arith, ap, sym, subst, ◌∙◌, ◌≡◌, ◌++
 use Rattle.std.specs.FinMap as map
 use Rattle.nn_base.specs.Paths.{Names, is_under}
 use Rattle.nn_tree.proofs.PrefixLemmas.{front_and_name, not_under_longer}
-use Rattle.nn_tree.proofs.plain.tests.move_up.Goals as goal
+use Rattle.tests_namespace.proofs.tree.move_up.Goals as goal
 
 pub relink-requires-clause-outside : goal.relink-requires-clause-outside
 relink-requires-clause-outside g c =

@@ -7,7 +7,7 @@ use Rattle.nn_tree.specs.Namespace.{Nodes}
 use Rattle.nn_tree.specs.Below.{entries_below, visited}
 use Rattle.nn_tree.proofs.PrefixLemmas.{under_itself}
 use Rattle.nn_tree.proofs.BelowLemmas.{none_visited, take_one_more, fewer_left, stays_below}
-use Rattle.nn_tree.proofs.plain.tests.ids_below.Goals as goal
+use Rattle.tests_namespace.proofs.tree.ids_below.Goals as goal
 
 -- one id more for one entry more
 one_more : (m : Nodes) (top : Names) (place : Spot → Names) (at to : Option Spot) (e : Names × Node) (old new : List ℕ) → new ≡ old ++ e.1.id ∷ []

@@ -1,11 +1,11 @@
 // Commands one after the other, with the answers that the rules give by hand.
 ghost use Rattle.std.specs.Prelude.{◌≡◌, ◌<◌, ◌^◌, true, IfOk, IfSome};
 ghost use Rattle.nn_record.specs.Ops.{IsOp};
-ghost use Rattle.nn_ops.specs.Changes.{IsQuota};
+ghost use Rattle.nn_quota.specs.Quotas.{IsQuota};
 ghost use Rattle.nn_ops.specs.Commands.{IsCommand};
 
-use crate::{Clash, Command, OpRefusal, apply, prepare, replay};
 use nn_base::{Label, Name, Path};
+use nn_ops::{Clash, Command, OpRefusal, apply, prepare, replay};
 use nn_quota::{Quota, Usage};
 use nn_record::Op;
 use nn_tree::{Block, Kind, PlainTree, Spot, Tree, Walk};

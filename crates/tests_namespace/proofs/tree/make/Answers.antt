@@ -5,7 +5,7 @@ use Rattle.nn_tree.specs.Nodes.{blocks_of}
 use Rattle.nn_tree.specs.Namespace.{block_count}
 use Rattle.nn_tree.proofs.LimitsLemmas.{limits_insert}
 use Rattle.nn_tree.proofs.PrefixLemmas.{front_and_name}
-use Rattle.nn_tree.proofs.plain.tests.make.Goals as goal
+use Rattle.tests_namespace.proofs.tree.make.Goals as goal
 
 pub insert-requires-clause-free : goal.insert-requires-clause-free
 insert-requires-clause-free g c =

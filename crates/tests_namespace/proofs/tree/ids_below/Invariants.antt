@@ -1,6 +1,6 @@
 use Rattle.std.proofs.Common.{◌≡◌, ◌-◌, map, take, length}
 use Rattle.nn_tree.specs.Below.{entries_below, visited, IsBelow}
-use Rattle.nn_tree.proofs.plain.tests.ids_below.Given as goal
+use Rattle.tests_namespace.proofs.tree.ids_below.Given as goal
 
 -- the entries visited so far, and where the walk goes next
 abbrev pub invariant-loop-next : goal.invariant-loop-next

@@ -7,10 +7,10 @@ ghost use Rattle.nn_tree.specs.Nodes.{blocks_of};
 ghost use Rattle.nn_tree.specs.Spots.{IsSound};
 ghost use Rattle.nn_tree.specs.Below.{entries_below};
 
-use super::*;
-use crate::{Blocks, Kind, next_below};
-use nn_base::Label;
-use nn_quota::Quota;
+use nn_base::{Label, Name, NoMemory, Path};
+use nn_quota::{Quota, Usage};
+use nn_tree::{Block, Blocks, Change, Kind, Node, PlainTree, Spot, Tree, Walk, next_below};
+use std::alloc::Global;
 use std::process::Abort;
 use std::test::Fail;
 

@@ -2,7 +2,7 @@ use Rattle.std.proofs.Common.{arith, ◌<◌, length}
 use Rattle.nn_tree.specs.Nodes.{blocks_of}
 use Rattle.nn_tree.specs.Namespace.{block_count}
 use Rattle.nn_tree.proofs.LimitsLemmas.{limits_block}
-use Rattle.nn_tree.proofs.plain.tests.add.Goals as goal
+use Rattle.tests_namespace.proofs.tree.add.Goals as goal
 
 pub add_block-requires-clause-limits : goal.add_block-requires-clause-limits
 add_block-requires-clause-limits g c =

@@ -1,5 +1,5 @@
 use Rattle.nn_tree.proofs.LimitsLemmas.{limits_time}
-use Rattle.nn_tree.proofs.plain.tests.touch.Goals as goal
+use Rattle.tests_namespace.proofs.tree.touch.Goals as goal
 
 pub change-requires-clause-limits : goal.change-requires-clause-limits
 change-requires-clause-limits g c =
