@@ -1,5 +1,5 @@
 -- A namespace stays well formed under each change.
-use Rattle.std.proofs.Common.{◌≡◌, ◌≢◌, ℕ, Bool, true, false, not, cond, List, [], ◌∷◌, ◌++◌, ◌⊎◌, inl, inr, length, drop, map, Option, Some, None, is_some, refl, sym, ap, ◌∙◌, arith, length-append, append-nil}
+use Rattle.std.proofs.Common.{◌≡◌, ◌≢◌, ℕ, Bool, true, false, not, cond, List, [], ◌∷◌, ◌++◌, ◌⊎◌, inl, inr, length, drop, map, Option, Some, None, is_some, refl, sym, ap, ◌∙◌, arith, length-append}
 use Rattle.std.specs.Prelude.{All}
 use Rattle.std.specs.Option.{option_map_or}
 use Rattle.std.specs.Ordering.{eq_by_cmp}
@@ -18,6 +18,7 @@ use Rattle.nn_tree.proofs.LinksLemmas.{paths_total, paths_exact, some_is, some_o
 use Rattle.nn_tree.proofs.SlotsLemmas.{hit, found, ties, itself}
 use Rattle.nn_tree.proofs.RekeyLemmas.{rekeyed, rekeyed_from, sorted_differ, of_entries, made_again, slot_map}
 use Rattle.nn_tree.proofs.KeptLemmas.{total-rekeyed}
+use Rattle.nn_tree.proofs.OrderLemmas.{front_there}
 use Rattle.nn_tree.proofs.PrefixLemmas.{under_itself, under_none, under_push, under_split, cancel_front, moved_push, moved_self, moved_out, moved_in}
 use Rattle.std.specs.FinMap.{entries_sorted}
 
@@ -30,25 +31,19 @@ dir_there m p dir = by (get m p) dir
     by None h = cc
     by (Some x) h = refl
 
--- above what is there all is there
-pub prefix_there : (m : Nodes) → IsNamespace m → (p rest : Names) → is_some (get m (p ++ rest)) ≡ true → is_some (get m p) ≡ true
-prefix_there m sound p [] there = ap (λ q. is_some (get m q)) (sym (append-nil p)) ∙ there
-prefix_there m sound p (name ∷ rest) there =
-    dir_there m p (sound.parents p name (prefix_there m sound (p ++ name ∷ []) rest (ap (λ q. is_some (get m q)) (append_snoc p name rest) ∙ there)))
-
--- and all its names are names
+-- all names of what is there are names
 named_from : (m : Nodes) → IsNamespace m → (front rest : Names) → is_some (get m (front ++ rest)) ≡ true → All (λ name. is_name name ≡ true) rest
 named_from m sound front [] there = All-nil (λ name. is_name name ≡ true)
 named_from m sound front (name ∷ rest) there =
     let further = ap (λ q. is_some (get m q)) (append_snoc front name rest) ∙ there in
-    All-cons (λ name. is_name name ≡ true) name rest (sound.names front name (prefix_there m sound (front ++ name ∷ []) rest further)) (named_from m sound (front ++ name ∷ []) rest further)
+    All-cons (λ name. is_name name ≡ true) name rest (sound.names front name (front_there m sound rest (front ++ name ∷ []) further)) (named_from m sound (front ++ name ∷ []) rest further)
 
 pub named_there : (m : Nodes) → IsNamespace m → (p : Names) → is_some (get m p) ≡ true → All (λ name. is_name name ≡ true) p
 named_there m sound p there = named_from m sound [] p there
 
--- so below what isn't there is nothing
+-- below what isn't there is nothing
 pub none_below : (m : Nodes) → IsNamespace m → (p rest : Names) (x : Node) → get m p ≡ None → get m (p ++ rest) ≡ Some x → ⊥
-none_below m sound p rest x none there = let a = prefix_there m sound p rest (ap is_some there) in let b = ap is_some none in cc
+none_below m sound p rest x none there = let a = front_there m sound rest p (ap is_some there) in let b = ap is_some none in cc
 
 dir_is : (m : Nodes) (p : Names) → is_dir_at m p ≡ true → (x : Node) × (get m p ≡ Some x) × (is_dir x.kind ≡ true)
 dir_is m p dir =
@@ -91,11 +86,9 @@ formed_insert m p name x sound free dir named = record {
   where
     kept : (q : Names) → is_dir_at m q ≡ true → is_dir_at (insert m (p ++ name ∷ []) x) q ≡ true
     kept q is = let y = dir_is m q is in dir_by (insert m (p ++ name ∷ []) x) q y.0 (get_other m (p ++ name ∷ []) q x y.0 free y.1) y.2
-
     above : (q : Names) (n : Bytes) (y : Node) → ((q ++ n ∷ [] ≡ p ++ name ∷ []) × (x ≡ y)) ⊎ (get m (q ++ n ∷ []) ≡ Some y) → is_dir_at (insert m (p ++ name ∷ []) x) q ≡ true
     above q n y (inl is) = kept q (ap (is_dir_at m) (same_from_push q p n name is.0).0 ∙ dir)
     above q n y (inr is) = kept q (sound.parents q n (ap is_some is))
-
     last : (q : Names) (n : Bytes) (y : Node) → ((q ++ n ∷ [] ≡ p ++ name ∷ []) × (x ≡ y)) ⊎ (get m (q ++ n ∷ []) ≡ Some y) → is_name n ≡ true
     last q n y (inl is) = ap is_name (same_from_push q p n name is.0).1 ∙ named
     last q n y (inr is) = sound.names q n (ap is_some is)
@@ -124,7 +117,6 @@ get_kept m p q g x is = by (get m p) refl
       where
         there : (b : Bool) → eq_by_cmp path_cmp q p ≡ b → get (change_at p g m) q ≡ cond b (Some (g z)) (get m q)
         there b h = ap (λ (o : Option Node). get (elim o as (λ _. Nodes) [ None ↦ m | Some x ↦ insert m p (g x) ]) q) e ∙ get-insert paths_total m p (g z) q ∙ ap (λ b. cond b (Some (g z)) (get m q)) h
-
         at : (b : Bool) → eq_by_cmp path_cmp q p ≡ b → (y : Node) × (get (change_at p g m) q ≡ Some y) × ((y ≡ x) ⊎ (y ≡ g x))
         at true h = (g z, there true h, inr (ap g (some_is _ _ (sym e ∙ ap (get m) (sym (ties paths_total paths_exact q p h)) ∙ is))))
         at false h = (x, there false h ∙ is, inl refl)
@@ -141,14 +133,11 @@ formed_change m p g ids kinds sound = record {
     same_id : (x y : Node) → (y ≡ x) ⊎ (y ≡ g x) → y.id ≡ x.id
     same_id x y (inl e) = ap (λ (x : Node). x.id) e
     same_id x y (inr e) = ap (λ (x : Node). x.id) e ∙ ids x
-
     same_kind : (x y : Node) → (y ≡ x) ⊎ (y ≡ g x) → is_dir y.kind ≡ is_dir x.kind
     same_kind x y (inl e) = ap (λ (x : Node). is_dir x.kind) e
     same_kind x y (inr e) = ap (λ (x : Node). is_dir x.kind) e ∙ kinds x
-
     kept : (q : Names) → is_dir_at m q ≡ true → is_dir_at (change_at p g m) q ≡ true
     kept q is = (let x = dir_is m q is in let y = get_kept m p q g x.0 x.1 in dir_by (change_at p g m) q y.0 y.1 (same_kind x.0 y.0 y.2 ∙ x.2))
-
     before : (q : Names) → is_some (get (change_at p g m) q) ≡ true → is_some (get m q) ≡ true
     before q there = (let y = some_at (change_at p g m) q there in let x = get_changed m p q g y.0 y.1 in ap is_some x.1)
 
