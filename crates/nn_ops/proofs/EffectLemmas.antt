@@ -1,10 +1,10 @@
 -- For callers: a body that fits, done on a namespace that can be saved, gives one that can.
-use Rattle.std.proofs.Common.{◌≡◌, ◌≢◌, ℕ, ◌+◌, ◌*◌, ◌<◌, ◌≤◌, ◌^◌, Bool, true, false, not, ◌||◌, ◌&&◌, List, [], ◌∷◌, ◌++◌, length, Option, Some, None, is_some, refl, sym, ap, subst, ◌∙◌, arith}
+use Rattle.std.proofs.Common.{◌≡◌, ◌≢◌, ℕ, ◌+◌, ◌*◌, ◌<◌, ◌^◌, Bool, true, false, not, ◌||◌, List, [], ◌∷◌, ◌++◌, length, Option, Some, None, refl, sym, ap, subst, ◌∙◌, arith}
 use Rattle.std.specs.Option.{is_none}
 use Rattle.std.specs.FinMap.{get, insert}
 use Rattle.std.proofs.lemmas.Bool.{leb-true, eqb-false, and_parts}
 use Rattle.std.proofs.lemmas.List.Elements.{All-contains, Contains-push}
-use Rattle.nn_base.specs.Paths.{Names, Bytes, IsPath, is_name, is_under, joined}
+use Rattle.nn_base.specs.Paths.{Names, IsPath, is_name, is_under, joined}
 use Rattle.nn_quota.specs.declared.quota.Quota.{Quota}
 use Rattle.nn_tree.specs.declared.node.Block.{Block}
 use Rattle.nn_tree.specs.declared.node.Kind.{Kind}
@@ -15,11 +15,11 @@ use Rattle.nn_tree.specs.declared.node.Change.TheVariants.{Time, Mode, Owner, Qu
 use Rattle.nn_tree.specs.Nodes.{is_dir, blocks_of, no_quota}
 use Rattle.nn_tree.specs.Namespace.{Namespace, Nodes, is_dir_at, usage_of}
 use Rattle.nn_tree.specs.Limits.{IsNode, IsBlock, IsWithinLimits}
-use Rattle.nn_tree.specs.Changes.{with_nodes, changed, with_quota, with_replication, closed, move, cut, moved, with_block}
+use Rattle.nn_tree.specs.Changes.{with_nodes, changed, with_quota, with_replication, closed, move, cut, moved}
 use Rattle.nn_tree.specs.Imaged.{IsImaged}
 use Rattle.nn_tree.proofs.LinksLemmas.{paths_total, paths_exact}
 use Rattle.nn_tree.proofs.FormedLemmas.{CanGo}
-use Rattle.nn_tree.proofs.ImagedLemmas.{HasQuota, KeepsNumbers, IsShort, imaged_insert, imaged_change, imaged_block, imaged_cut, imaged_move}
+use Rattle.nn_tree.proofs.ImagedLemmas.{HasQuota, IsShort, imaged_insert, imaged_change, imaged_block, imaged_cut, imaged_move}
 use Rattle.nn_record.specs.declared.op.Op.{Op}
 use Rattle.nn_record.specs.declared.op.Op.TheVariants.{Add, RenameOld, Delete, Mkdir, SetReplication, SetPermissions, SetOwner, Close, SetQuota, EndLogSegment, StartLogSegment, AddBlock}
 use Rattle.nn_record.specs.Ops.{IsOp}

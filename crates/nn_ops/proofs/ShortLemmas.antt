@@ -8,21 +8,19 @@ use Rattle.std.specs.FinMap.{get}
 use Rattle.std.proofs.Math.Seq.{append_snoc}
 use Rattle.std.proofs.lemmas.Bool.Decides.{nat_tests}
 use Rattle.std.specs.Prelude.{nat_le}
-use Rattle.std.specs.Cmp.Lexicographic.{bytes_decides}
 use Rattle.nn_base.specs.Paths.{Names, Bytes, is_under, joined, name_cmp, path_cmp}
 use Rattle.nn_base.proofs.PlainLemmas.{is_less}
 use Rattle.nn_tree.specs.declared.spot.Spot.{Spot}
 use Rattle.nn_tree.specs.declared.node.Node.{Node}
 use Rattle.nn_tree.specs.Namespace.{Nodes, IsNamespace}
 use Rattle.nn_tree.specs.Changes.{moved}
-use Rattle.nn_tree.specs.Spots.{last_name, IsNextChild}
+use Rattle.nn_tree.specs.Spots.{IsNextChild}
 use Rattle.nn_tree.specs.Totals.{total}
 use Rattle.nn_tree.proofs.LinksLemmas.{names_total, names_exact, paths_total, paths_exact}
-use Rattle.nn_tree.proofs.OrderLemmas.{name_above, under_front}
+use Rattle.nn_tree.proofs.OrderLemmas.{front_there, name_above, under_front}
 use Rattle.nn_tree.proofs.PrefixLemmas.{under_split, moved_in}
 use Rattle.nn_ops.specs.Bounds.{is_short, is_short_by, moves_short, TellsShort}
 use Rattle.nn_ops.proofs.EntriesLemmas.{all_by_get, not_all_by_get, fewer}
-use Rattle.nn_ops.proofs.WalkLemmas.{prefix_there}
 
 -- ---- one name further
 
@@ -52,11 +50,6 @@ pub push_cmp : (p : Names) (x y : Bytes) → path_cmp (p ++ x ∷ []) (p ++ y �
 push_cmp [] x y = then_equal (name_cmp x y)
 push_cmp (z ∷ p) x y = ap (λ r. ordering_then r (path_cmp (p ++ x ∷ []) (p ++ y ∷ []))) (tied_itself names_total z) ∙ push_cmp p x y
 
-pub last_name_push : (p : Names) (x : Bytes) → last_name (p ++ x ∷ []) ≡ x
-last_name_push [] x = refl
-last_name_push (y ∷ []) x = refl
-last_name_push (y ∷ z ∷ p) x = last_name_push (z ∷ p) x
-
 -- ---- the walk
 
 -- the next child, if there is one
@@ -75,7 +68,7 @@ SoFar m p levels size place (Some s) = (name : Bytes) (rest : Names) → is_some
 
 module _ (m : Nodes) (sound : IsNamespace m) (p : Names) (levels size : ℕ) (place : Spot → Names) where
   child_there : (name : Bytes) (rest : Names) → is_some (get m (p ++ name ∷ rest)) ≡ true → is_some (get m (p ++ name ∷ [])) ≡ true
-  child_there name rest h = prefix_there m sound (p ++ name ∷ []) rest (ap (λ q. is_some (get m q)) (append_snoc p name rest) ∙ h)
+  child_there name rest h = front_there m sound rest (p ++ name ∷ []) (ap (λ q. is_some (get m q)) (append_snoc p name rest) ∙ h)
 
   -- no child is between a bound and the next one
   no_between : (has : Spot → Bool) (bound : Bytes) (o : Option Spot) → IsNextChild o has place m p bound → (name : Bytes) (rest : Names) → is_some (get m (p ++ name ∷ rest)) ≡ true → name_cmp bound name ≡ Less

@@ -105,10 +105,6 @@ module _ (m : Nodes) (sound : IsNamespace m) where
       by None dir next = cc
       by (Some node) dir next = ap (λ b. cond b (obstacle_from m (front ++ y ∷ []) rest) (Some AFile)) dir ∙ next
 
-  -- above what is there all is there
-  pub prefix_there : (front rest : Names) → is_some (get m (front ++ rest)) ≡ true → is_some (get m front) ≡ true
-  prefix_there front rest h = (clear_along front rest h).1
-
   -- nothing is in the way of a node that is there
   pub clear_to : (p : Names) → is_some (get m p) ≡ true → obstacle m p ≡ None
   clear_to p h = (clear_along [] p h).0

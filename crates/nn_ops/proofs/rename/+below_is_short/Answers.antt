@@ -2,7 +2,8 @@ use Rattle.std.proofs.Common.{◌≡◌, ◌+◌, ◌<◌, ℕ, true, false, [],
 use Rattle.nn_tree.specs.declared.spot.Spot.{Spot}
 use Rattle.nn_tree.specs.Spots.{last_name}
 use Rattle.nn_ops.specs.Bounds.{TellsShort}
-use Rattle.nn_ops.proofs.ShortLemmas.{SoFar, IsChild, next_is_child, started, went_on, all_done, child_fails, below_fails, behind, fewer_behind, last_name_push, too_deep, too_long}
+use Rattle.nn_ops.proofs.ShortLemmas.{SoFar, IsChild, next_is_child, started, went_on, all_done, child_fails, below_fails, behind, fewer_behind, too_deep, too_long}
+use Rattle.nn_tree.proofs.SoundLemmas.{last_name_push}
 use Rattle.nn_ops.proofs.rename.+below_is_short.Goals as goal
 
 pub loop-next-init : goal.loop-next-init
