@@ -5,8 +5,6 @@ use Rattle.std.proofs.lemmas.List.{take_all, take_at}
 use Rattle.nn_host.specs.Listing.{bytes_of, IsRead}
 use Rattle.nn_host.specs.Moments.{State}
 use Rattle.nn_host.specs.Runs.{Looked}
--- until each user takes it from there
-pub use Rattle.nn_host.proofs.WorkLemmas.{still_then}
 use Rattle.nn_small.specs.Whole.{answered}
 use Rattle.nn_small.specs.declared.read.ReadAll.{ReadAll}
 use Rattle.nn_small.specs.declared.read.ReadAll.TheVariants.{Failed, Memory}

@@ -7,9 +7,7 @@ use Rattle.nn_host.specs.Disk.{Held, Disk, Reads, File, Call, MakeFile, Append, 
 use Rattle.nn_host.specs.Moments.{State, IsLawful, disk_at}
 use Rattle.nn_host.specs.Calls.{Called, Done}
 use Rattle.nn_host.specs.Runs.{OnlyAt}
-use Rattle.nn_host.proofs.FilesLemmas.{there}
--- until each user takes it from there
-pub use Rattle.nn_host.proofs.FilesLemmas.{again}
+use Rattle.nn_host.proofs.FilesLemmas.{there, again}
 use Rattle.nn_host.proofs.LawfulLemmas.{unread}
 use Rattle.nn_host.proofs.MakesLemmas.{Makes}
 use Rattle.nn_host.proofs.TouchLemmas.{Touches, Moves, untouched, unmoved, rooted}
