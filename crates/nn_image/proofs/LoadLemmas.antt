@@ -1,5 +1,5 @@
 -- From the sections of an image to its messages, and from those to a namespace: what each step of loading finds.
-use Rattle.std.proofs.Common.{◌≡◌, ◌≢◌, ℕ, ◌^◌, ◌≤◌, length, None, Some, sym, ap, subst, ◌∙◌, inr, arith}
+use Rattle.std.proofs.Common.{◌≡◌, ◌≢◌, ℕ, ◌≤◌, length, None, Some, sym, ap, subst, ◌∙◌, inr, arith}
 use Rattle.nn_base.specs.Limits.{most_image}
 use Rattle.nn_base.specs.Paths.{Bytes}
 use Rattle.nn_tree.specs.Namespace.{Namespace}

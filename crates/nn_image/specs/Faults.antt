@@ -1,5 +1,5 @@
 -- What is wrong with bytes that are no image: the first fault that applies, from the frame inward.
-use Rattle.std.specs.Prelude.{◌≡◌, ◌≢◌, ℕ, ◌^◌, ◌≤◌, ◌⊎◌, true, length, take, None, is_some}
+use Rattle.std.specs.Prelude.{◌≡◌, ◌≢◌, ℕ, ◌≤◌, ◌⊎◌, true, length, take, None, is_some}
 use Rattle.nn_base.specs.Limits.{most_image, most_blocks}
 use Rattle.nn_base.specs.Paths.{Bytes}
 use Rattle.nn_tree.specs.Namespace.{Namespace}

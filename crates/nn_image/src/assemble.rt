@@ -1,5 +1,5 @@
 // The tree of an image's messages.
-ghost use Rattle.std.specs.Prelude.{◌≡◌, ◌≢◌, ◌==◌, ◌&&◌, ◌↔◌, ◌≤◌, ◌^◌, ℕ, Bool, true, false, List, [], All, Err, IfOk, Some, None, IfSome, MatchOption, IsTrue, length, map, nat_le};
+ghost use Rattle.std.specs.Prelude.{◌≡◌, ◌≢◌, ◌==◌, ◌&&◌, ◌↔◌, ◌≤◌, ℕ, Bool, true, false, List, [], All, Err, IfOk, Some, None, IfSome, MatchOption, IsTrue, length, map, nat_le};
 ghost use Rattle.std.specs.List.{list_all};
 ghost use Rattle.nn_base.specs.Labels.{IsLabel};
 ghost use Rattle.nn_base.specs.Limits.{most_image};

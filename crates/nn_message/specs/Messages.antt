@@ -1,5 +1,5 @@
 -- What the messages of an image hold, and the range of each number in them.
-use Rattle.std.specs.Prelude.{◌≡◌, ◌≢◌, ℕ, ◌^◌, ◌<◌, ◌≤◌, ◌⊎◌, true, List, [], length, All, Some}
+use Rattle.std.specs.Prelude.{◌≡◌, ◌≢◌, ℕ, ◌^◌, ◌<◌, ◌≤◌, ◌⊎◌, true, List, [], All, Some}
 use Rattle.nn_base.specs.Labels.{IsLabel}
 use Rattle.nn_base.specs.Limits.{most_nodes, IsLong}
 use Rattle.nn_base.specs.Paths.{Bytes, is_name}

@@ -1,4 +1,4 @@
-use Rattle.std.proofs.Common.{◌≡◌, length, refl, ap, arith}
+use Rattle.std.proofs.Common.{length, refl, ap, arith}
 use Rattle.nn_message.specs.Messages.{IsInode}
 use Rattle.nn_message.specs.Spelling.{delimited, inode}
 use Rattle.nn_message.specs.Views.{IsInodeView}
