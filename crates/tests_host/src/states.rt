@@ -104,8 +104,8 @@ fn the_folders_of_a_directory_name_its_state_and_those_that_serve(
             Err(why) => format!(in rt.alloc(); "{why}")?,
         };
         assert_eq!(rt; text.as_str(), name);
-        assert_eq!(rt; seat(seven), (current, previous), "{name}");
-        assert_eq!(rt; found(DIR, seven).is_ok(), table(seven).is_ok(), "{name}");
+        assert_eq!(rt; seat(seven), (current, previous), "{text}");
+        assert_eq!(rt; found(DIR, seven).is_ok(), table(seven).is_ok(), "{text}");
     }
     Ok(())
 }
