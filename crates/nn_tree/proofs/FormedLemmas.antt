@@ -86,9 +86,11 @@ formed_insert m p name x sound free dir named = record {
   where
     kept : (q : Names) → is_dir_at m q ≡ true → is_dir_at (insert m (p ++ name ∷ []) x) q ≡ true
     kept q is = let y = dir_is m q is in dir_by (insert m (p ++ name ∷ []) x) q y.0 (get_other m (p ++ name ∷ []) q x y.0 free y.1) y.2
+
     above : (q : Names) (n : Bytes) (y : Node) → ((q ++ n ∷ [] ≡ p ++ name ∷ []) × (x ≡ y)) ⊎ (get m (q ++ n ∷ []) ≡ Some y) → is_dir_at (insert m (p ++ name ∷ []) x) q ≡ true
     above q n y (inl is) = kept q (ap (is_dir_at m) (same_from_push q p n name is.0).0 ∙ dir)
     above q n y (inr is) = kept q (sound.parents q n (ap is_some is))
+
     last : (q : Names) (n : Bytes) (y : Node) → ((q ++ n ∷ [] ≡ p ++ name ∷ []) × (x ≡ y)) ⊎ (get m (q ++ n ∷ []) ≡ Some y) → is_name n ≡ true
     last q n y (inl is) = ap is_name (same_from_push q p n name is.0).1 ∙ named
     last q n y (inr is) = sound.names q n (ap is_some is)
@@ -117,6 +119,7 @@ get_kept m p q g x is = by (get m p) refl
       where
         there : (b : Bool) → eq_by_cmp path_cmp q p ≡ b → get (change_at p g m) q ≡ cond b (Some (g z)) (get m q)
         there b h = ap (λ (o : Option Node). get (elim o as (λ _. Nodes) [ None ↦ m | Some x ↦ insert m p (g x) ]) q) e ∙ get-insert paths_total m p (g z) q ∙ ap (λ b. cond b (Some (g z)) (get m q)) h
+
         at : (b : Bool) → eq_by_cmp path_cmp q p ≡ b → (y : Node) × (get (change_at p g m) q ≡ Some y) × ((y ≡ x) ⊎ (y ≡ g x))
         at true h = (g z, there true h, inr (ap g (some_is _ _ (sym e ∙ ap (get m) (sym (ties paths_total paths_exact q p h)) ∙ is))))
         at false h = (x, there false h ∙ is, inl refl)
@@ -133,11 +136,14 @@ formed_change m p g ids kinds sound = record {
     same_id : (x y : Node) → (y ≡ x) ⊎ (y ≡ g x) → y.id ≡ x.id
     same_id x y (inl e) = ap (λ (x : Node). x.id) e
     same_id x y (inr e) = ap (λ (x : Node). x.id) e ∙ ids x
+
     same_kind : (x y : Node) → (y ≡ x) ⊎ (y ≡ g x) → is_dir y.kind ≡ is_dir x.kind
     same_kind x y (inl e) = ap (λ (x : Node). is_dir x.kind) e
     same_kind x y (inr e) = ap (λ (x : Node). is_dir x.kind) e ∙ kinds x
+
     kept : (q : Names) → is_dir_at m q ≡ true → is_dir_at (change_at p g m) q ≡ true
     kept q is = (let x = dir_is m q is in let y = get_kept m p q g x.0 x.1 in dir_by (change_at p g m) q y.0 y.1 (same_kind x.0 y.0 y.2 ∙ x.2))
+
     before : (q : Names) → is_some (get (change_at p g m) q) ≡ true → is_some (get m q) ≡ true
     before q there = (let y = some_at (change_at p g m) q there in let x = get_changed m p q g y.0 y.1 in ap is_some x.1)
 
