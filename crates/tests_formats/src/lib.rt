@@ -17,6 +17,8 @@ mod record;
 #[cfg(test)]
 mod segment;
 #[cfg(test)]
+mod sets;
+#[cfg(test)]
 mod strtab;
 #[cfg(test)]
 mod wire;
