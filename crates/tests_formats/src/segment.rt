@@ -2,7 +2,7 @@
 ghost use Rattle.std.specs.Prelude.{◌<◌, ◌≤◌};
 
 use nn_base::Txid;
-use nn_segment::{Run, header_put, intact_run};
+use nn_segment::{Run, header_put, intact_run, next_record, records_in};
 use std::alloc::Global;
 use std::test::Fail;
 
@@ -165,6 +165,18 @@ fn is_kept_when_cut(alloc: Global, len: usize) -> Result<bool, Fail>
 {
     let Run { last, end } = intact_run(alloc, &ALL[..len], LAYOUT, Txid(1))?;
     Ok(is_before(last, end, len))
+}
+
+#[test]
+fn a_record_is_next_where_its_id_is_asked_for(rt: HostRuntime) -> Result<(), Fail> {
+    let alloc = rt.alloc();
+    assert!(rt; records_in(ALL, -1002).is_none());
+    let records = records_in(ALL, LAYOUT).ok_or("a header")?;
+    let (record, len) = next_record(alloc, records, 1)?.ok_or("a record")?;
+    assert_eq!(rt; record.id.0, 1);
+    assert_eq!(rt; len, 17);
+    assert!(rt; next_record(alloc, records, 2)?.is_none());
+    Ok(())
 }
 
 #[test]
