@@ -50,7 +50,7 @@ if [ -n "$says" ]; then
     make -s -n -f "$PLACE/order" "$crate" | sed 's/^sh tools\/prove.sh //'
     exit
 fi
-echo "Proves what $crate stands on, $JOBS crates at a time, and then $crate. The whole program takes about 18 minutes on four"
+echo "Proves what $crate stands on, $JOBS crates at a time, and then $crate. The whole program takes 15 to 20 minutes on four"
 echo 'processors, and less where some of it was proved here before. Each line says which crate is done, and when.'
 make -s -j "$JOBS" -f "$PLACE/order" "$crate" || {
     echo "$crate was not built, since not all is proved: see above." >&2
