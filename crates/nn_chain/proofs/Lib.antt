@@ -1,3 +1,5 @@
+pub mod SameLemmas
+pub mod SmallFileLemmas
 pub mod BareLemmas
 pub mod FairLemmas
 pub mod RecordLemmas
@@ -5,3 +7,4 @@ pub mod ChainLemmas
 pub mod ReadLemmas
 pub mod UnsoundLemmas
 pub mod LawLemmas
+pub mod DigestLemmas

@@ -65,11 +65,11 @@ compared a b = by (slice_cmp nat_cmp (text_of a) (text_of b)) refl
 
 -- ---- records of one run
 
-run_from : (bytes : List ℕ) (layout : ℤ) (first : ℕ) (rs : List Record) → IsRun bytes layout first rs → AreFrom first rs
+pub run_from : (bytes : List ℕ) (layout : ℤ) (first : ℕ) (rs : List Record) → IsRun bytes layout first rs → AreFrom first rs
 run_from bytes layout first [] run = tt
 run_from bytes layout first (r ∷ rs) run = run.0
 
-id_at : (first : ℕ) (rs : List Record) (k : ℕ) (d : Record) → AreFrom first rs → k < length rs → (get_or rs k d).id ≡ first + k
+pub id_at : (first : ℕ) (rs : List Record) (k : ℕ) (d : Record) → AreFrom first rs → k < length rs → (get_or rs k d).id ≡ first + k
 id_at first [] k d from lt = absurd (omega arith)
 id_at first (r ∷ rs) zero d from lt = omega (arith, from.0)
 id_at first (r ∷ rs) (suc k) d from lt = omega (arith, id_at (first + 1) rs k d from.2 (omega arith))

@@ -1,6 +1,7 @@
 -- An image of which something is wrong isn't intact, and just one thing is wrong with it first.
-use Rattle.std.proofs.Common.{◌≡◌, ◌≢◌, ◌⊎◌, ⊎_elim, ℕ, ◌≤◌, ◌^◌, List, length, unsigned_abs, Some, None, refl, sym, ◌∙◌, ap, subst}
+use Rattle.std.proofs.Common.{◌≡◌, ◌≢◌, ◌⊎◌, ⊎_elim, ℕ, ◌≤◌, List, length, unsigned_abs, Some, None, refl, sym, ◌∙◌, ap, subst}
 use Rattle.std.proofs.lemmas.Option.{same_Some}
+use Rattle.nn_base.specs.Limits.{most_image}
 use Rattle.nn_base.specs.declared.file_name.FileName.TheVariants.{Image}
 use Rattle.nn_marks.specs.declared.version.Version.{Version}
 use Rattle.nn_image.specs.declared.fault.ImageFault.{ImageFault}
@@ -25,7 +26,7 @@ module _ (folder : Folder) (id : ℕ) where
 
 -- a fault other than that of a file too large is one of bytes whose digest agrees
 module _ (folder : Folder) (version : Version) (id : ℕ) (bytes : List ℕ) where
-  digest_first : (found : ImageFault) → length bytes ≤ 2 ^ 30 → ¬ HasDigest folder id bytes → (found ≡ fault.TooLarge) ⊎ HasDigest folder id bytes → IsFault found bytes (unsigned_abs version.layout) → ⊥
+  digest_first : (found : ImageFault) → length bytes ≤ most_image → ¬ HasDigest folder id bytes → (found ≡ fault.TooLarge) ⊎ HasDigest folder id bytes → IsFault found bytes (unsigned_abs version.layout) → ⊥
   digest_first found small none may is = ⊎_elim
       (λ large. let over : IsFault fault.TooLarge bytes (unsigned_abs version.layout) = subst (λ (f : ImageFault). IsFault f bytes (unsigned_abs version.layout)) large is in over small)
       (λ agrees. none agrees)

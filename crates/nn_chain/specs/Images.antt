@@ -1,6 +1,8 @@
 -- The images of a folder: which are intact, and which is the newest of them.
 use Rattle.std.specs.Prelude.{◌≡◌, ◌≢◌, ◌⊎◌, ◌<◌, ◌≤◌, ◌^◌, ℕ, List, length, unsigned_abs, Some, None}
+use Rattle.hex.specs.Hex.{IsBytes}
 use Rattle.md5.specs.Md5.{md5}
+use Rattle.nn_base.specs.Limits.{most_image}
 use Rattle.nn_base.specs.declared.file_name.FileName.TheVariants.{Image, Md5}
 use Rattle.nn_marks.specs.declared.version.Version.{Version}
 use Rattle.nn_marks.specs.Digest.{md5_text_of}
@@ -15,6 +17,10 @@ use Rattle.nn_chain.specs.Folder.{Folder}
 -- Its MD5 file names the image of this id and has the digest of these bytes.
 abbrev pub HasDigest : Folder → ℕ → List ℕ → Type 0
 HasDigest folder id bytes = folder (Md5 id) ≡ Some (md5_text_of (md5 bytes) id)
+
+-- Its MD5 file names the image of this id, with some digest.
+abbrev pub NamesImage : Folder → ℕ → Type 0
+NamesImage folder id = (digest : List ℕ) × (length digest ≡ 16) × IsBytes digest × (folder (Md5 id) ≡ Some (md5_text_of digest id))
 
 -- The image of this id is intact, and of this namespace: the MD5 file agrees, it reads under the layout and the namespaceID of VERSION, and the id inside is its own. That it has at most 2^30 bytes follows, as each image has.
 pub record IsIntact (folder : Folder) (version : Version) (id : ℕ) (ns : Namespace) : Type 0 where
@@ -48,7 +54,7 @@ pub record IsAnother (version : Version) (id : ℕ) (bytes : List ℕ) : Type 0 
 -- The first that is wrong with the image of this id. A file that is too large is told before its digest is looked at.
 abbrev pub IsUnsound : Folder → Version → ℕ → ImageWhy → Type 0
 IsUnsound folder version id Absent = folder (Image id) ≡ None
-IsUnsound folder version id Digest = HasImage folder id (λ bytes. (length bytes ≤ 2 ^ 30) × ¬ HasDigest folder id bytes)
+IsUnsound folder version id Digest = HasImage folder id (λ bytes. (length bytes ≤ most_image) × ¬ HasDigest folder id bytes)
 IsUnsound folder version id (Fault found) = HasImage folder id (λ bytes. ((found ≡ fault.TooLarge) ⊎ HasDigest folder id bytes) × (found ≢ fault.Memory) × IsFault found bytes (unsigned_abs version.layout))
 IsUnsound folder version id Named = HasImage folder id (λ bytes. HasDigest folder id bytes × IsAnother version id bytes)
 

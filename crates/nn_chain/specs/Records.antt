@@ -1,5 +1,5 @@
 -- The record that a folder has of each id: that of the first segment file, in byte order of names, whose intact run reaches it.
-use Rattle.std.specs.Prelude.{◌≡◌, ℕ, ℤ, ◌≤◌, ◌^◌, List, length, Option, Some, None, Contains}
+use Rattle.std.specs.Prelude.{◌≡◌, ℕ, ℤ, ◌<◌, ◌≤◌, ◌^◌, List, length, Option, Some, None, Contains}
 use Rattle.nn_base.specs.declared.file_name.FileName.{FileName}
 use Rattle.nn_base.specs.declared.file_name.FileName.TheVariants.{Version, VersionTmp, Seen, SeenTmp, Image, Md5, Md5Tmp, Ckpt, Edits, InProgress}
 use Rattle.nn_base.specs.FileText.{IsInRange}
@@ -48,3 +48,7 @@ pub record IsRecordOf (folder : Folder) (layout : ℤ) (r : Record) : Type 0 whe
 -- no segment file has a record of this id
 abbrev pub HasNoRecord : Folder → ℤ → ℕ → Type 0
 HasNoRecord folder layout id = (name : FileName) (r : Record) → r.id ≡ id → ¬ HoldsRecord folder layout name r
+
+-- no segment file has a record of a later id
+abbrev pub HasNoneAfter : Folder → ℤ → ℕ → Type 0
+HasNoneAfter folder layout last = (name : FileName) (r : Record) → last < r.id → ¬ HoldsRecord folder layout name r

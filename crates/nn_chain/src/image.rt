@@ -1,27 +1,28 @@
 // The image of one id in a folder, as it is read.
-ghost use Rattle.std.specs.Prelude.{◌≡◌, ◌⊎◌, ◌<◌, ◌≤◌, ◌^◌, ◌↔◌, IsTrue, IfOk, IfErr, Some, length, unsigned_abs};
+ghost use Rattle.std.specs.Prelude.{◌≡◌, ◌≢◌, ◌<◌, ◌≤◌, ℕ, List, OnOk, IfOk, IfErr, IfSome, IfNone, Some, length, unsigned_abs};
+ghost use Rattle.hex.specs.Hex.{IsBytes};
+ghost use Rattle.nn_base.specs.Limits.{most_image};
 ghost use Rattle.nn_host.specs.Moments.{disk_at};
 ghost use Rattle.nn_host.specs.Runs.{OnlyAt, Looked};
+ghost use Rattle.nn_marks.specs.Digest.{md5_text_of};
 ghost use Rattle.nn_image.specs.Imaged.{IsImage};
 ghost use Rattle.nn_chain.specs.Folder.{folder_at};
-ghost use Rattle.nn_chain.specs.Images.{HasDigest, IsIntact};
-ghost use Rattle.nn_chain.specs.Reading.{answered, IsTold, IsToldAnyhow, IsToldOf, unloaded};
+ghost use Rattle.nn_chain.specs.Images.{HasImage, IsIntact};
+ghost use Rattle.nn_chain.specs.Reading.{answered, IsDigest, IsTold, IsToldAnyhow, IsToldOf, unloaded};
 
 use crate::ImageWhy;
 use md5::{Digest, Md5};
+use nn_base::limits::MOST_IMAGE;
 use nn_base::{DirNo, FileName, Sub, Txid};
-use nn_host::Host;
+use nn_host::{Failed, Host};
 use nn_image::{ImageFault, Loaded, load};
-use nn_marks::{Version, md5_text};
+use nn_marks::{Version, md5_read};
 use nn_small::{ReadAll, read_all};
 use nn_tree::Tree;
 use std::alloc::Global;
 
-/// The most bytes that an image has: that of any namespace within the limits is shorter.
-const MOST: u64 = 1_073_741_824;
-
-/// More bytes than an MD5 file has.
-const FEW: u64 = 256;
+/// The most bytes of an image file that is read: that of any namespace within the limits is shorter.
+const MOST: u64 = MOST_IMAGE as u64;
 
 /// Why an image wasn't read.
 #[derive(Clone, Copy, Debug, PartialEq, Eq)]
@@ -30,8 +31,19 @@ pub enum ReadImage {
     Failed,
     /// It isn't intact.
     Unsound(ImageWhy),
-    /// There was no memory for it; nothing is said of the image.
+    /// There was no memory for it: it may be intact. Never so where the image file is absent or too large, or its MD5 file
+    /// isn't one.
     Memory,
+}
+
+impl From<Failed> for ReadImage {
+    ghost use Rattle.nn_chain.specs.declared.image.ReadImage.TheVariants.{Failed};
+
+    ghost from_gives = { λ _ answer. answer ≡ Failed };
+
+    fn from(_: Failed) -> ReadImage {
+        ReadImage::Failed
+    }
 }
 
 impl From<ImageFault> for ReadImage {
@@ -63,14 +75,65 @@ pub fn read_image<H: Host, T: Tree>(
     ensures kept { Looked H.told i.0 (H.state host.old) (H.state host.new) (answered result) }
     ensures any_moment { OnlyAt H.told i.0 (H.state host.old) (H.state host.new) (λ d. d ≡ disk_at (H.state host.old) i.0) }
 {
-    let bytes = image_bytes(alloc, host, i, sub, id)?;
-    if !has_digest(alloc, host, i, sub, id, &bytes)? {
+    image_within(host, i, sub, id)?;
+    // Before the image is read, so that no memory is asked for where it can't be intact.
+    let Some(digest) = digest_in(host, i, sub, id)? else {
         return Err(ReadImage::Unsound(ImageWhy::Digest));
+    };
+    let bytes = image_bytes(alloc, host, i, sub, id)?;
+    if Md5::digest(&bytes) == digest {
+        load_as(alloc, &bytes, id, version)
+    } else {
+        Err(ReadImage::Unsound(ImageWhy::Digest))
     }
-    load_as(alloc, &bytes, id, version)
 }
 
-/// The bytes of the image file, of which there are at most 2^30.
+/// Whether there is an image file within its limit; if not, why.
+fn image_within<H: Host>(host: &mut H, i: DirNo, sub: Sub, id: Txid) -> Result<(), ReadImage>
+    requires { i.0 < (H.state host.old).count }
+    ensures ok { H.told → OnOk result (HasImage (folder_at ((H.state host.old).reads i.0) sub) id (λ bytes. length bytes ≤ most_image)) }
+    ensures err { H.told → IfErr result (λ answer. IsToldAnyhow (folder_at ((H.state host.old).reads i.0) sub) id answer) }
+    ensures kept { Looked H.told i.0 (H.state host.old) (H.state host.new) (answered result) }
+    ensures any_moment { OnlyAt H.told i.0 (H.state host.old) (H.state host.new) (λ d. d ≡ disk_at (H.state host.old) i.0) }
+{
+    if !host.has_file(i, sub, FileName::Image(id))? {
+        return Err(ReadImage::Unsound(ImageWhy::Absent));
+    }
+    if host.size(i, sub, FileName::Image(id))? > MOST {
+        return Err(ReadImage::Unsound(ImageWhy::Fault(ImageFault::TooLarge)));
+    }
+    Ok(())
+}
+
+/// The digest that the MD5 file has for the image of this id. None where it is absent, or isn't as it is written.
+fn digest_in<H: Host>(
+    host: &mut H,
+    i: DirNo,
+    sub: Sub,
+    id: Txid,
+) -> Result<Option<[u8; 16]>, ReadImage>
+    requires { i.0 < (H.state host.old).count }
+    ensures ok { H.told → IfOk result (λ found. IsDigest (folder_at ((H.state host.old).reads i.0) sub) id found) }
+    ensures err { IfErr result (λ answer. answer ≡ ReadImage.Failed) }
+    ensures kept { Looked H.told i.0 (H.state host.old) (H.state host.new) (answered result) }
+    ensures any_moment { OnlyAt H.told i.0 (H.state host.old) (H.state host.new) (λ d. d ≡ disk_at (H.state host.old) i.0) }
+{
+    // More room than an MD5 file takes: a longer file doesn't look like one.
+    let mut text = [0; 80];
+    let len = host.read_at(i, sub, FileName::Md5(id), 0, &mut text)?;
+    Ok(digest_of(&text[..len], id))
+}
+
+/// The digest that a text of an MD5 file has, if it names the image of this id.
+fn digest_of(text: &[u8], id: Txid) -> Option<[u8; 16]>
+    ensures some { IfSome result (λ digest. (length digest ≡ 16) × IsBytes digest × (text.now ≡ md5_text_of digest id)) }
+    ensures none { IfNone result ((digest : List ℕ) → length digest ≡ 16 → IsBytes digest → text.now ≢ md5_text_of digest id) }
+{
+    let (digest, of) = md5_read(text)?;
+    if of == id { Some(digest) } else { None }
+}
+
+/// The bytes of the image file.
 fn image_bytes<H: Host>(
     alloc: Global,
     host: &mut H,
@@ -80,8 +143,8 @@ fn image_bytes<H: Host>(
 ) -> Result<Vec<u8>, ReadImage>
     requires { i.0 < (H.state host.old).count }
     ensures ok { H.told → IfOk result (λ bytes. folder_at ((H.state host.old).reads i.0) sub (FileName.Image id) ≡ Some bytes.items) }
-    ensures small { IfOk result (λ bytes. length bytes.items ≤ 2 ^ 30) }
-    ensures err { H.told → IfErr result (λ answer. IsToldAnyhow (folder_at ((H.state host.old).reads i.0) sub) id answer) }
+    ensures small { IfOk result (λ bytes. length bytes.items ≤ most_image) }
+    ensures err { H.told → IfErr result (λ answer. answer ≢ ReadImage.Memory → IsToldAnyhow (folder_at ((H.state host.old).reads i.0) sub) id answer) }
     ensures kept { Looked H.told i.0 (H.state host.old) (H.state host.new) (answered result) }
     ensures any_moment { OnlyAt H.told i.0 (H.state host.old) (H.state host.new) (λ d. d ≡ disk_at (H.state host.old) i.0) }
 {
@@ -92,53 +155,6 @@ fn image_bytes<H: Host>(
         Err(ReadAll::TooLarge(_)) => {
             Err(ReadImage::Unsound(ImageWhy::Fault(ImageFault::TooLarge)))
         }
-        Err(ReadAll::Memory) => Err(ReadImage::Memory),
-    }
-}
-
-/// Whether the MD5 file names the image of this id and has the digest of these bytes.
-fn has_digest<H: Host>(
-    alloc: Global,
-    host: &mut H,
-    i: DirNo,
-    sub: Sub,
-    id: Txid,
-    bytes: &[u8],
-) -> Result<bool, ReadImage>
-    requires { i.0 < (H.state host.old).count }
-    ensures ok { H.told → IfOk result (λ has. IsTrue has ↔ HasDigest (folder_at ((H.state host.old).reads i.0) sub) id bytes.now) }
-    ensures err { IfErr result (λ answer. (answer ≡ ReadImage.Failed) ⊎ (answer ≡ ReadImage.Memory)) }
-    ensures kept { Looked H.told i.0 (H.state host.old) (H.state host.new) (answered result) }
-    ensures any_moment { OnlyAt H.told i.0 (H.state host.old) (H.state host.new) (λ d. d ≡ disk_at (H.state host.old) i.0) }
-{
-    // The file has one text for a digest and an id, so reading it is comparing it.
-    let digest = Md5::digest(bytes);
-    let mut text = [0; 80];
-    let len = md5_text(&digest, id, &mut text);
-    has_text(alloc, host, i, sub, FileName::Md5(id), &text[..len])
-}
-
-/// Whether a file has just these bytes, of which there are few.
-fn has_text<H: Host>(
-    alloc: Global,
-    host: &mut H,
-    i: DirNo,
-    sub: Sub,
-    name: FileName,
-    text: &[u8],
-) -> Result<bool, ReadImage>
-    requires below { i.0 < (H.state host.old).count }
-    requires few { length text.now ≤ 256 }
-    ensures ok { H.told → IfOk result (λ has. IsTrue has ↔ (folder_at ((H.state host.old).reads i.0) sub name ≡ Some text.now)) }
-    ensures err { IfErr result (λ answer. (answer ≡ ReadImage.Failed) ⊎ (answer ≡ ReadImage.Memory)) }
-    ensures kept { Looked H.told i.0 (H.state host.old) (H.state host.new) (answered result) }
-    ensures any_moment { OnlyAt H.told i.0 (H.state host.old) (H.state host.new) (λ d. d ≡ disk_at (H.state host.old) i.0) }
-{
-    match read_all(alloc, host, i, sub, name, FEW) {
-        Ok(bytes) => Ok(bytes.as_slice() == text),
-        Err(ReadAll::Absent) => Ok(false),
-        Err(ReadAll::TooLarge(_)) => Ok(false),
-        Err(ReadAll::Failed) => Err(ReadImage::Failed),
         Err(ReadAll::Memory) => Err(ReadImage::Memory),
     }
 }

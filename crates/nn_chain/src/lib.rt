@@ -4,8 +4,6 @@
 
 mod image;
 pub mod laws;
-#[cfg(test)]
-mod tests;
 mod why;
 
 pub use image::{ReadImage, read_image};

@@ -12,7 +12,7 @@ use Rattle.nn_state.specs.Typed.{FitsFresh}
 use Rattle.nn_pick.specs.Dirs.{EachChoice}
 use Rattle.nn_pick.proofs.VersionLemmas.{SaysTheSame}
 use Rattle.nn_open.specs.Formatted.{IsFormatted, ReadsFormatted, OpensEmpty, OpenEmptySoundly}
-use Rattle.nn_open.specs.Runs.{Unspoken}
+use Rattle.nn_host.specs.Runs.{Unspoken}
 use Rattle.nn_open.specs.Answers.{AllFresh, AllFormatted, EachFreshOrNew, EachAsBefore, settled_disk, first_unformattable}
 use Rattle.nn_open.proofs.LeftLemmas.{fresh_left, left_fresh, formatted_left}
 use Rattle.nn_open.proofs.OpeningLemmas.{formatted_opens, choices_open}

@@ -1,7 +1,6 @@
 pub mod TableLemmas
 pub mod StepLemmas
 pub mod CallLemmas
-pub mod RunsLemmas
 pub mod SurveyLemmas
 pub mod MakeLemmas
 pub mod FormatLemmas

@@ -2,15 +2,13 @@
 use Rattle.std.proofs.Common.{◌≡◌, inl, inr, ℕ, ◌+◌, ◌<◌, ◌≤◌, refl, sym, ◌∙◌, ap, subst, arith}
 use Rattle.std.proofs.lemmas.Bool.Decides.{eqb_tells}
 use Rattle.nn_host.specs.Moments.{State, Dir, disk_at, faults_at}
-use Rattle.nn_host.specs.Runs.{OnlyAt}
-use Rattle.nn_host.proofs.RunsLemmas.{throughout_refl}
-use Rattle.nn_host.proofs.WorkLemmas.{each_dir_work}
+use Rattle.nn_host.specs.Runs.{OnlyAt, SameCounts, Unspoken}
+use Rattle.nn_host.proofs.RunsLemmas.{throughout_refl, counts_refl, counts_trans, counts_once, unspoken_refl, unspoken_trans}
+use Rattle.nn_host.proofs.WorkLemmas.{each_dir_work, unspoken_work}
 use Rattle.nn_state.specs.Typed.{FitsFresh}
 use Rattle.nn_marks.specs.declared.version.Version.{Version}
 use Rattle.nn_open.specs.Formatted.{IsFormatted, FreshOrNew}
-use Rattle.nn_open.specs.Runs.{SameCounts, Unspoken}
 use Rattle.nn_open.specs.Answers.{EachFreshOrNew}
-use Rattle.nn_open.proofs.RunsLemmas.{counts_refl, counts_trans, counts_once, unspoken_refl, unspoken_trans, unspoken_work}
 
 -- the first k directories are formatted, and the others as they were
 pub record Made (told : Type 0) (version : Version) (k : ℕ) (start now : State) : Type 0 where

@@ -1,15 +1,15 @@
 -- A formatted directory alone opens to the empty namespace, and so does each choice of directories with a formatted one.
 use Rattle.std.proofs.Common.{◌≡◌, ◌⊎◌, inl, inr, ⊎_elim, ℕ, ◌+◌, ◌<◌, ◌≤◌, Some, sym, ◌∙◌, arith, lit<}
-use Rattle.std.specs.Prelude.{pos, neg_ℤ}
 use Rattle.std.specs.Fmt.{decimal}
 use Rattle.std.proofs.lemmas.Option.{same_Some}
+use Rattle.nn_base.specs.Limits.{program_layout}
 use Rattle.nn_base.specs.declared.sub.Sub.TheVariants.{Current, Previous}
 use Rattle.nn_base.specs.declared.file_name.FileName.TheVariants.{Seen}
 use Rattle.nn_host.specs.Disk.{Reads}
 use Rattle.nn_state.specs.Typed.{FitsFresh}
 use Rattle.nn_marks.specs.Seen.{seen_text_of}
 use Rattle.nn_marks.specs.VersionText.{version_text_of}
-use Rattle.nn_marks.specs.declared.version.Version.{Version as Stamp}
+use Rattle.nn_marks.specs.declared.version.Version.{Version}
 use Rattle.nn_marks.proofs.SeenLemmas.{number_in-decimal, seen_only}
 use Rattle.nn_marks.proofs.VersionTextLemmas.{reads_back}
 use Rattle.nn_tree.specs.Namespace.{empty_namespace}
@@ -33,7 +33,7 @@ seen_none folder there id (inl says) =
     let zero : 0 ≡ id = same_Some 0 id (sym (number_in-decimal 0 (lit< tt)) ∙ seen_only says.0 (decimal 0) id (inl text) says.2) in
     omega (arith, zero)
 
-formatted_holds : (version : Stamp) → version.layout ≡ neg_ℤ (pos 1001) → (c : Reads) → ReadsFormatted version c → HoldsImage c version 0 empty_namespace
+formatted_holds : (version : Version) → version.layout ≡ program_layout → (c : Reads) → ReadsFormatted version c → HoldsImage c version 0 empty_namespace
 formatted_holds version layout c is = record {
   normal = is.normal;
   nothing_saved = is.whole.other_subs Previous (λ x. cc);
@@ -46,14 +46,14 @@ formatted_holds version layout c is = record {
   room = lit< tt;
 }
 
-pub formatted_opens : (version : Stamp) → version.layout ≡ neg_ℤ (pos 1001) → (c : Reads) → ReadsFormatted version c → OpensEmpty c
+pub formatted_opens : (version : Version) → version.layout ≡ program_layout → (c : Reads) → ReadsFormatted version c → OpensEmpty c
 formatted_opens version layout c is = opens_alone c version 0 empty_namespace (formatted_holds version layout c is)
 
 -- ---- choices
 
 -- of directories that are not formatted, or formatted under VERSIONs that all say the same
-pub choices_open : (P : Stamp → Type 0) → ((v : Stamp) → P v → v.layout ≡ neg_ℤ (pos 1001)) → ((v w : Stamp) → P v → P w → SaysTheSame v w) → (count : ℕ) (contents : ℕ → Reads)
-    → ((i : ℕ) → i < count → FitsFresh (contents i) ⊎ ((v : Stamp) × P v × ReadsFormatted v (contents i))) → EachChoiceOpensEmpty count contents
+pub choices_open : (P : Version → Type 0) → ((v : Version) → P v → v.layout ≡ program_layout) → ((v w : Version) → P v → P w → SaysTheSame v w) → (count : ℕ) (contents : ℕ → Reads)
+    → ((i : ℕ) → i < count → FitsFresh (contents i) ⊎ ((v : Version) × P v × ReadsFormatted v (contents i))) → EachChoiceOpensEmpty count contents
 choices_open P ours one count contents each n numbers within some = elim (each (numbers some.0) (within some.0 some.1)) [
   | inl fresh ↦ absurd (some.2 (fresh_serves (contents (numbers some.0)) fresh))
   | inr its ↦ one_image_is_sound (choice contents n numbers) its.0 0 empty_namespace (record {
@@ -66,7 +66,7 @@ choices_open P ours one count contents each n numbers within some = elim (each (
   })
 ]
 
-module _ (version : Stamp) (layout : version.layout ≡ neg_ℤ (pos 1001)) (count : ℕ) (contents : ℕ → Reads) where
+module _ (version : Version) (layout : version.layout ≡ program_layout) (count : ℕ) (contents : ℕ → Reads) where
   under_one : ((i : ℕ) → i < count → LeftFreshOrNew version (contents i)) → EachChoiceOpensEmpty count contents
   under_one each = choices_open (λ v. SaysTheSame v version) (λ v says. says.layout ∙ layout) (λ v w p q. same_as_well v version w p (same_turned w version q)) count contents
       (λ i below. ⊎_elim (λ fresh. inl fresh) (λ new. inr (version, says_itself version, new)) (each i below))

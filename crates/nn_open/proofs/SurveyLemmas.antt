@@ -3,18 +3,16 @@ use Rattle.std.proofs.Common.{◌≡◌, ◌⊎◌, inl, inr, ⊎_elim, ℕ, zer
 use Rattle.std.proofs.lemmas.Bool.Decides.{eqb_tells}
 use Rattle.nn_host.specs.Disk.{Disk, Reads, Settle, disk_after}
 use Rattle.nn_host.specs.Moments.{State, Dir, disk_at, faults_at}
-use Rattle.nn_host.specs.Runs.{OnlyAt}
-use Rattle.nn_host.proofs.RunsLemmas.{throughout_refl}
-use Rattle.nn_host.proofs.WorkLemmas.{each_dir_work}
+use Rattle.nn_host.specs.Runs.{OnlyAt, SameCounts, Unspoken}
+use Rattle.nn_host.proofs.RunsLemmas.{throughout_refl, counts_refl, counts_trans, counts_once, unspoken_refl, unspoken_trans}
+use Rattle.nn_host.proofs.WorkLemmas.{each_dir_work, unspoken_work}
 use Rattle.nn_state.specs.declared.state.StorageState.{StorageState}
 use Rattle.nn_state.specs.declared.state.StorageState.TheVariants.{NonExistent, NotFormatted, Normal, CompleteUpgrade, RecoverUpgrade, CompleteFinalize, CompleteRollback, RecoverRollback, CompleteCheckpoint, RecoverCheckpoint}
 use Rattle.nn_state.specs.declared.state.Why.{Why}
 use Rattle.nn_state.specs.Table.{seven_of, table_of}
 use Rattle.nn_pick.specs.declared.refusal.Refusal.{Refusal}
 use Rattle.nn_pick.specs.Refused.{unformattable, or_else, first_refused}
-use Rattle.nn_open.specs.Runs.{SameCounts, Unspoken}
 use Rattle.nn_open.specs.Answers.{first_unformattable, settled_disk, AllFresh, EachAsBefore}
-use Rattle.nn_open.proofs.RunsLemmas.{counts_refl, counts_trans, counts_once, unspoken_refl, unspoken_trans, unspoken_work}
 
 -- settling a disk once more changes nothing of it
 resettled : (r : Reads) (d e : Disk) → (e ≡ d) ⊎ (e ≡ disk_after Settle r d) → disk_after Settle r e ≡ disk_after Settle r d

@@ -2,7 +2,7 @@
 use Rattle.std.specs.Prelude.{◌≡◌, ◌⊎◌, ◌<◌, ℕ, Option, Some, None, Result, Ok, Err}
 use Rattle.nn_host.specs.Disk.{Disk, Reads, Settle, disk_after}
 use Rattle.nn_host.specs.Moments.{Moment, State, Left, disk_at, moment}
-use Rattle.nn_host.specs.Runs.{Throughout, EachDir}
+use Rattle.nn_host.specs.Runs.{Throughout, EachDir, RoseAt, SameCounts}
 use Rattle.nn_marks.specs.declared.version.Version.{Version}
 use Rattle.nn_state.specs.Table.{seven_of, table_of}
 use Rattle.nn_state.specs.Typed.{FitsFresh}
@@ -12,7 +12,6 @@ use Rattle.nn_pick.specs.declared.fault.OpenFault.TheVariants.{Refused, Failed, 
 use Rattle.nn_pick.specs.Refused.{unformattable, first_refused}
 use Rattle.nn_pick.specs.Dirs.{EachChoice}
 use Rattle.nn_open.specs.Formatted.{IsFormatted, ReadsFormatted, FreshOrNew, OpensEmpty, OpenEmptySoundly, LeftFreshOrOpen}
-use Rattle.nn_open.specs.Runs.{RoseAt, SameCounts}
 
 -- the refusal of the lowest of the first n directories that isn't NOT_FORMATTED
 abbrev pub first_unformattable : (ℕ → Reads) → ℕ → Option Refusal

@@ -1,3 +1,2 @@
 pub mod Formatted
-pub mod Runs
 pub mod Answers

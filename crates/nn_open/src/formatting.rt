@@ -1,13 +1,12 @@
 // The format of all name directories.
-ghost use Rattle.std.specs.Prelude.{◌≡◌, ◌≢◌, ◌⊎◌, None, OnOk, IfErr, IsErrOf, pos, neg_ℤ};
-ghost use Rattle.nn_tree.specs.Namespace.{empty_namespace};
+ghost use Rattle.std.specs.Prelude.{◌≡◌, ◌≢◌, ◌⊎◌, None, OnOk, IfErr, IsErrOf};
+ghost use Rattle.nn_base.specs.Limits.{program_layout};
+ghost use Rattle.nn_host.specs.Runs.{Unspoken};
 ghost use Rattle.nn_pick.specs.declared.fault.OpenFault.TheVariants as fault;
-ghost use Rattle.nn_open.specs.Runs.{Unspoken};
 ghost use Rattle.nn_open.specs.Answers.{AllFresh, AllFormatted, IsRefused, EachFreshOrNew, EachAsBefore, StopsFreshOrOpen, IsCountedBy, first_unformattable};
 
 use crate::make::make_all;
 use crate::survey::survey;
-use nn_base::NoMemory;
 use nn_host::Host;
 use nn_marks::Version;
 use nn_pick::OpenFault;
@@ -24,7 +23,7 @@ use std::alloc::Global;
 /// Like Hadoop's `namenode -format`, without its `-force`: it asks nothing and removes no state.
 pub fn format<H: Host>(alloc: Global, host: &mut H, version: &Version) -> Result<(), OpenFault>
     requires new { version.now.ctime ≡ 0 }
-    requires layout { version.now.layout ≡ neg_ℤ (pos 1001) }
+    requires layout { version.now.layout ≡ program_layout }
     ensures ok { H.told → OnOk result (AllFormatted version.now (H.state host.old) (H.state host.new)) }
     ensures refused { H.told → IfErr result (λ why. (refusal : _) → why ≡ OpenFault.Refused refusal → IsRefused refusal (H.state host.old) (H.state host.new)) }
     ensures memory { H.told → IsErrOf result fault.Memory → (H.state host.new ≡ H.state host.old) ⊎ AllFresh (H.state host.old) }
@@ -34,31 +33,11 @@ pub fn format<H: Host>(alloc: Global, host: &mut H, version: &Version) -> Result
     ensures quiet { Unspoken H.told (H.state host.old) (H.state host.new) }
     ensures cause { IsCountedBy (H.state host.old) (H.state host.new) result }
 {
-    match PlainTree::new(alloc) {
-        Ok(tree) => format_all(alloc, host, &tree, version),
-        Err(NoMemory) => Err(OpenFault::Memory),
-    }
-}
-
-// The same with a tree that is the empty namespace.
-fn format_all<H: Host, T: Tree>(
-    alloc: Global,
-    host: &mut H,
-    tree: &T,
-    version: &Version,
-) -> Result<(), OpenFault>
-    requires layout { version.now.layout ≡ neg_ℤ (pos 1001) }
-    requires empty { T.meaning tree.now ≡ empty_namespace }
-    ensures ok { H.told → OnOk result (AllFormatted version.now (H.state host.old) (H.state host.new)) }
-    ensures refused { H.told → IfErr result (λ why. (refusal : _) → why ≡ OpenFault.Refused refusal → IsRefused refusal (H.state host.old) (H.state host.new)) }
-    ensures memory { H.told → IsErrOf result fault.Memory → AllFresh (H.state host.old) }
-    ensures any_moment { AllFresh (H.state host.old) → EachFreshOrNew H.told version.now (H.state host.old) (H.state host.new) }
-    ensures unchanged { first_unformattable (H.state host.old).reads (H.state host.old).count ≢ None → EachAsBefore H.told (H.state host.old) (H.state host.new) }
-    ensures quiet { Unspoken H.told (H.state host.old) (H.state host.new) }
-    ensures cause { IsCountedBy (H.state host.old) (H.state host.new) result }
-{
+    let Ok(tree) = PlainTree::new(alloc) else {
+        return Err(OpenFault::Memory);
+    };
     if let Some(refusal) = survey(host)? {
         return Err(OpenFault::Refused(refusal));
     }
-    make_all(alloc, host, tree, version)
+    make_all(alloc, host, &tree, version)
 }

@@ -6,7 +6,5 @@ mod fault;
 mod formatting;
 mod make;
 mod survey;
-#[cfg(test)]
-mod tests;
 
 pub use formatting::format;

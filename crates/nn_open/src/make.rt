@@ -2,13 +2,12 @@
 ghost use Rattle.std.specs.Prelude.{◌≡◌, ◌≢◌, ◌<◌, ℕ, OnOk, IfErr};
 ghost use Rattle.nn_host.specs.Moments.{disk_at};
 ghost use Rattle.nn_host.specs.Calls.{IsCounted};
-ghost use Rattle.nn_host.specs.Runs.{OnlyAt};
+ghost use Rattle.nn_host.specs.Runs.{OnlyAt, Unspoken};
 ghost use Rattle.nn_state.specs.Typed.{FitsFresh};
 ghost use Rattle.nn_tree.specs.Namespace.{empty_namespace};
 ghost use Rattle.nn_remake.specs.Counts.{IsCountedBy as IsCountedAt};
 ghost use Rattle.nn_remake.specs.Made.{IsBare};
 ghost use Rattle.nn_open.specs.Formatted.{IsFormatted, FreshOrNew};
-ghost use Rattle.nn_open.specs.Runs.{Unspoken};
 ghost use Rattle.nn_open.specs.Answers.{EachFreshOrNew, IsCountedBy};
 
 use nn_base::{DirNo, Sub, Txid};

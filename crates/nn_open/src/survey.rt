@@ -2,10 +2,9 @@
 ghost use Rattle.std.specs.Prelude.{◌≡◌, ◌⊎◌, ◌<◌, ℕ, OnOk, IfOk, MatchResult};
 ghost use Rattle.nn_host.specs.Moments.{disk_at};
 ghost use Rattle.nn_host.specs.Calls.{IsCounted};
-ghost use Rattle.nn_host.specs.Runs.{OnlyAt};
+ghost use Rattle.nn_host.specs.Runs.{OnlyAt, RoseAt, SameCounts, Unspoken};
 ghost use Rattle.nn_state.specs.Table.{seven_of, table_of};
 ghost use Rattle.nn_pick.specs.Refused.{unformattable as unformattable_at};
-ghost use Rattle.nn_open.specs.Runs.{RoseAt, SameCounts, Unspoken};
 ghost use Rattle.nn_open.specs.Answers.{first_unformattable, settled_disk, EachAsBefore};
 
 use crate::fault::FailedAt;

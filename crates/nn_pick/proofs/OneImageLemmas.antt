@@ -5,6 +5,7 @@ use Rattle.std.proofs.lemmas.Bool.{cases_Bool}
 use Rattle.std.proofs.lemmas.Bool.Decides.{Decides-ltb, Decides-and, not_from_Decides, eqb_tells}
 use Rattle.std.proofs.lemmas.Int.{ints}
 use Rattle.std.proofs.lemmas.Option.{none-some}
+use Rattle.nn_base.specs.Limits.{program_layout}
 use Rattle.nn_base.specs.declared.sub.Sub.TheVariants.{Current}
 use Rattle.nn_marks.specs.declared.version.Version.{Version}
 use Rattle.nn_state.specs.Table.{seven_of, table_of}
@@ -17,7 +18,7 @@ use Rattle.nn_pick.specs.declared.refusal.Refusal.{Refusal}
 use Rattle.nn_pick.specs.declared.refusal.Refusal.TheVariants.{Missing, Inconsistent, Formatted, NotFormatted, BadVersion, Mismatch, FutureLayout, ForeignLayout, NoImage, Gap, Spent, PreviousExists, CtimeSpent, NoPrevious, BadPrevious}
 use Rattle.nn_pick.specs.Refused.{unusable, first_refused, or_else}
 use Rattle.nn_pick.specs.Dirs.{Dirs, IsLowest, IsFormatted, ServesCurrent, ServesUnder, HasGreatestCtime, IsChosen, IsAmongChosen, formatted_in}
-use Rattle.nn_pick.specs.Refusing.{Applies, SomeChosen, IsHolder, program_layout}
+use Rattle.nn_pick.specs.Refusing.{Applies, SomeChosen, IsChosenWithPrevious}
 use Rattle.nn_pick.specs.Opening.{Opens, AreSound, Unsaved}
 use Rattle.nn_pick.specs.Laws.{HoldsImage, HoldOneImage, OneImageIsSound}
 use Rattle.nn_pick.proofs.VersionLemmas.{SaysTheSame, same_turned, same_as_well, no_difference}
@@ -45,7 +46,7 @@ some_decides : {A : Type 0} (o : Option A) → Decides (is_some o) (o ≢ None)
 some_decides None = (λ e. cc, λ is. absurd (is refl))
 some_decides (Some x) = (λ e gone. none-some x (sym gone), λ is. refl)
 
-none_refused : (f : ℕ → Option Refusal) (n : ℕ) → ((i : ℕ) → i < n → f i ≡ None) → first_refused f n ≡ None
+pub none_refused : (f : ℕ → Option Refusal) (n : ℕ) → ((i : ℕ) → i < n → f i ≡ None) → first_refused f n ≡ None
 none_refused f zero all = refl
 none_refused f (suc n) all = ap₂ or_else (none_refused f n (λ i below. all i (omega (arith, below)))) (all n (omega arith))
 
@@ -135,8 +136,8 @@ module _ (dirs : Dirs) (version : Version) (id : ℕ) (ns : Namespace) (h : Hold
 
   -- ---- so they open
 
-  no_holder : (i : ℕ) → ¬ IsHolder dirs i
-  no_holder i is = is.1 (saves_none (served i is.0.1 is.0.3.ahead.below is.0.3.ahead.under.serves))
+  none_with_previous : (i : ℕ) → ¬ IsChosenWithPrevious dirs i
+  none_with_previous i is = is.1 (saves_none (served i is.0.1 is.0.3.ahead.below is.0.3.ahead.under.serves))
 
   lowest : (k : ℕ) × IsLowest dirs.count (IsAmongChosen dirs) k
   lowest = the_first dirs.count (formatted_in dirs) (IsAmongChosen dirs) decides h.some.0 h.some.1 (among h.some.0 h.some.1 h.some.2)
@@ -158,7 +159,7 @@ module _ (dirs : Dirs) (version : Version) (id : ℕ) (ns : Namespace) (h : Hold
         };
         last = refl;
         namespace = refl;
-        saved = Unsaved no_holder refl;
+        saved = Unsaved none_with_previous refl;
       }
 
   sound : AreSound dirs Start
@@ -169,7 +170,7 @@ module _ (dirs : Dirs) (version : Version) (id : ℕ) (ns : Namespace) (h : Hold
       ap (λ (r : Reached). r.ns) (ends_at i other its end is.ahead is.chain),
       ends_bare (served i its is.ahead.below is.ahead.under.serves) other its end is.ahead.under is.chain,
     );
-    saved = λ i holder. absurd (no_holder i holder);
+    saved = λ i has. absurd (none_with_previous i has);
   }
 
 pub one_image_is_sound : OneImageIsSound

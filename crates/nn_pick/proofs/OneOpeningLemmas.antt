@@ -5,7 +5,7 @@ use Rattle.nn_marks.specs.declared.version.Version.{Version}
 use Rattle.nn_chain.specs.Folder.{Folder, HasVersion}
 use Rattle.nn_chain.specs.Chain.{Reached}
 use Rattle.nn_pick.specs.Dirs.{Dirs, IsAmongChosen, ServesCurrent, ServesPrevious}
-use Rattle.nn_pick.specs.Refusing.{IsHolder}
+use Rattle.nn_pick.specs.Refusing.{IsChosenWithPrevious}
 use Rattle.nn_pick.specs.Opening.{IsFirstChosen, IsSavedChain, IsSaved, Unsaved, Lost, Kept}
 use Rattle.nn_pick.specs.Laws.{OneOpens}
 use Rattle.nn_pick.proofs.VersionLemmas.{one_version, one_current, one_previous}
@@ -46,14 +46,14 @@ one_saved dirs what other (Unsaved none is) (Kept j folder own end low chain it)
 one_saved dirs what other (Lost i low lost is) (Unsaved none it) = absurd (none i low.holds)
 one_saved dirs what other (Lost i low lost is) (Lost j low_too lost_too it) = is ∙ sym it
 one_saved dirs what other (Lost i low lost is) (Kept j folder own end low_too chain it) =
-    let place = the_lowest dirs.count (IsHolder dirs) i j low low_too in
+    let place = the_lowest dirs.count (IsChosenWithPrevious dirs) i j low low_too in
     absurd (lost folder own end (chain_there dirs i j folder own end place chain))
 one_saved dirs what other (Kept i folder own end low chain is) (Unsaved none it) = absurd (none i low.holds)
 one_saved dirs what other (Kept i folder own end low chain is) (Lost j low_too lost it) =
-    let place = the_lowest dirs.count (IsHolder dirs) j i low_too low in
+    let place = the_lowest dirs.count (IsChosenWithPrevious dirs) j i low_too low in
     absurd (lost folder own end (chain_there dirs j i folder own end place chain))
 one_saved dirs what other (Kept i a v end low chain is) (Kept j b w last low_too chain_too it) =
-    let place = the_lowest dirs.count (IsHolder dirs) i j low low_too in
+    let place = the_lowest dirs.count (IsChosenWithPrevious dirs) i j low low_too in
     let ends = one_saved_end dirs i j a b v w end last place chain chain_too in
     is ∙ ap (λ (r : Reached). Some r.ns) ends ∙ sym it
 

@@ -18,7 +18,7 @@ use Rattle.nn_pick.specs.declared.refusal.PreviousWhy.TheVariants as why
 use Rattle.nn_pick.specs.declared.refusal.Refusal.{Refusal}
 use Rattle.nn_pick.specs.declared.refusal.Refusal.TheVariants.{Missing, Inconsistent, Formatted, NotFormatted, BadVersion, Mismatch, FutureLayout, ForeignLayout, NoImage, Gap, Spent, PreviousExists, CtimeSpent, NoPrevious, BadPrevious}
 use Rattle.nn_pick.specs.Dirs.{Dirs, IsLowest, IsFormatted, HasGreatestCtime, ServesCurrent, ServesPrevious, ServesUnder, IsGreatestSeen, version_fault}
-use Rattle.nn_pick.specs.Refusing.{Applies, SomeChosen, Differs, HasLayout, IsFuture, IsForeign, IsFaulty, IsHolder, IsBadHolder, IsFirstWrong, IsWrong, first_difference, test_of, place_of}
+use Rattle.nn_pick.specs.Refusing.{Applies, SomeChosen, Differs, HasLayout, IsFuture, IsForeign, IsFaulty, IsChosenWithPrevious, HasBadPrevious, IsFirstWrong, IsWrong, first_difference, test_of, place_of}
 use Rattle.nn_pick.proofs.VersionLemmas.{SaysTheSame, same_turned, one_current, one_previous, one_under}
 use Rattle.nn_pick.proofs.UnderLemmas.{one_image_why}
 
@@ -140,7 +140,7 @@ first_wrong a b v w folder same p q = elim (cases_order (place_of a) (place_of b
   ]
 ]
 
-one_reason : (dirs : Dirs) (i j : ℕ) (a b : PreviousWhy) → i ≡ j → IsBadHolder dirs i a → IsBadHolder dirs j b → a ≡ b
+one_reason : (dirs : Dirs) (i j : ℕ) (a b : PreviousWhy) → i ≡ j → HasBadPrevious dirs i a → HasBadPrevious dirs j b → a ≡ b
 one_reason dirs i j a b place p q =
     let same = under_same dirs i j p.version q.version p.current q.current place p.chosen.ahead.under q.chosen.ahead.under in
     let folder = one_previous (dirs.at i) p.folder q.folder p.serves (subst (λ (k : ℕ). ServesPrevious (dirs.at k) q.folder) (sym place) q.serves) in
@@ -172,13 +172,13 @@ one_applies dirs intent (Gap a i) (Gap b j) p q e =
 one_applies dirs intent (Spent i) (Spent j) p q e =
     let last : i ≡ j = p.3 ∙ one_last dirs p.0 q.0 p.1 q.1 p.2 q.2 ∙ sym q.3 in
     λ k. Spent (last k)
-one_applies dirs intent (PreviousExists i) (PreviousExists j) p q e = let place = the_lowest dirs.count (IsHolder dirs) i.0 j.0 p.1 q.1 in λ k. PreviousExists (same_dir i j place k)
+one_applies dirs intent (PreviousExists i) (PreviousExists j) p q e = let place = the_lowest dirs.count (IsChosenWithPrevious dirs) i.0 j.0 p.1 q.1 in λ k. PreviousExists (same_dir i j place k)
 one_applies dirs intent (PreviousExists i) (CtimeSpent b) p q e = absurd (q.6 i.0 p.1.holds)
 one_applies dirs intent (CtimeSpent a) (PreviousExists j) p q e = absurd (p.6 j.0 q.1.holds)
 one_applies dirs intent (CtimeSpent a) (CtimeSpent b) p q e = let old : a ≡ b = p.5 ∙ sym q.5 in λ k. CtimeSpent (old k)
 one_applies dirs intent NoPrevious NoPrevious p q e = refl
 one_applies dirs intent (BadPrevious i a) (BadPrevious j b) p q e =
-    let place = the_lowest dirs.count (λ k. (its : PreviousWhy) × IsBadHolder dirs k its) i.0 j.0 p.1 q.1 in
+    let place = the_lowest dirs.count (λ k. (its : PreviousWhy) × HasBadPrevious dirs k its) i.0 j.0 p.1 q.1 in
     let reason = one_reason dirs i.0 j.0 a b place p.2 q.2 in
     λ k. BadPrevious (same_dir i j place k) (reason k)
 one_applies dirs intent (Formatted i) s p q e = absurd p

@@ -9,7 +9,7 @@ use Rattle.nn_pick.specs.declared.intent.Intent.{Intent}
 use Rattle.nn_pick.specs.declared.intent.Intent.TheVariants.{Start}
 use Rattle.nn_pick.specs.declared.refusal.PreviousWhy.{PreviousWhy}
 use Rattle.nn_pick.specs.Dirs.{Dirs, IsLowest, ServesPrevious, HasGreatestCtime, IsChosen, IsAmongChosen, formatted_in}
-use Rattle.nn_pick.specs.Refusing.{IsWrong, IsHolder, IsUnrefused}
+use Rattle.nn_pick.specs.Refusing.{IsWrong, IsChosenWithPrevious, IsUnrefused}
 
 -- A namespace, and the one that the last upgrade saved, until a rollback returns it or finalize gives it up.
 pub record Book : Type 0 where
@@ -24,9 +24,9 @@ pub record IsSavedChain (c : Reads) (folder : Folder) (own : Version) (end : Rea
 
 -- what is saved is in the lowest chosen directory that has a previous: none where none has one, or where that has no chain
 pub data IsSaved (dirs : Dirs) (what : Option Namespace) : Type 0 where
-  Unsaved : ((i : ℕ) → ¬ IsHolder dirs i) → what ≡ None → IsSaved dirs what
-  Lost : (i : ℕ) → IsLowest dirs.count (IsHolder dirs) i → ((folder : Folder) (own : Version) (end : Reached) → ¬ IsSavedChain (dirs.at i) folder own end) → what ≡ None → IsSaved dirs what
-  Kept : (i : ℕ) (folder : Folder) (own : Version) (end : Reached) → IsLowest dirs.count (IsHolder dirs) i → IsSavedChain (dirs.at i) folder own end → what ≡ Some end.ns → IsSaved dirs what
+  Unsaved : ((i : ℕ) → ¬ IsChosenWithPrevious dirs i) → what ≡ None → IsSaved dirs what
+  Lost : (i : ℕ) → IsLowest dirs.count (IsChosenWithPrevious dirs) i → ((folder : Folder) (own : Version) (end : Reached) → ¬ IsSavedChain (dirs.at i) folder own end) → what ≡ None → IsSaved dirs what
+  Kept : (i : ℕ) (folder : Folder) (own : Version) (end : Reached) → IsLowest dirs.count (IsChosenWithPrevious dirs) i → IsSavedChain (dirs.at i) folder own end → what ≡ Some end.ns → IsSaved dirs what
 
 pub record Opening : Type 0 where
   pub chosen : ℕ → Bool
@@ -71,7 +71,7 @@ pub record AreSound (dirs : Dirs) (intent : Intent) : Type 0 where
   pub opened : Opening
   pub opens : Opens dirs intent opened
   pub one : (i : ℕ) (version : Version) (folder : Folder) (end : Reached) → IsChosen dirs i version folder end → (end.ns ≡ opened.book.ns) × EndsBare folder version end
-  pub saved : (i : ℕ) → IsHolder dirs i → AgreesOnSaved dirs opened
+  pub saved : (i : ℕ) → IsChosenWithPrevious dirs i → AgreesOnSaved dirs opened
 
 -- They open for a start to this Book at this id, all that are formatted are chosen, and they are sound.
 pub record OpenSoundly (dirs : Dirs) (last : ℕ) (book : Book) : Type 0 where

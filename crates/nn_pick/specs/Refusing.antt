@@ -1,6 +1,7 @@
 -- Why name directories can't be opened: the tests in their order, of which the first that applies is the answer, and within one the lowest directory.
-use Rattle.std.specs.Prelude.{◌≡◌, ◌≢◌, ◌⊎◌, ℕ, ℤ, ◌+◌, ◌-◌, ◌<◌, ◌≤◌, ◌^◌, ◌<ℤ◌, pos, neg_ℤ, not, ◌==◌, Option, Some, None, if◌then◌else◌}
+use Rattle.std.specs.Prelude.{◌≡◌, ◌≢◌, ◌⊎◌, ℕ, ℤ, ◌+◌, ◌-◌, ◌<◌, ◌≤◌, ◌^◌, ◌<ℤ◌, not, ◌==◌, Option, Some, None, if◌then◌else◌}
 use Rattle.std.specs.Str.{bytes_eq}
+use Rattle.nn_base.specs.Limits.{program_layout}
 use Rattle.nn_marks.specs.declared.key.Key.{Key}
 use Rattle.nn_marks.specs.declared.key.Key.TheVariants.{NamespaceId, ClusterId, BlockpoolId}
 use Rattle.nn_marks.specs.declared.version.Version.{Version}
@@ -18,10 +19,7 @@ use Rattle.nn_state.specs.Seat.{saved}
 use Rattle.nn_pick.specs.Refused.{unusable, first_refused}
 use Rattle.nn_pick.specs.Dirs.{Dirs, IsLowest, IsFormatted, ServesCurrent, ServesPrevious, ServesUnder, HasGreatestCtime, IsChosen, IsAmongChosen, IsGreatestSeen, version_fault}
 
--- the layout of this program, and the layouts that it reads
-abbrev pub program_layout : ℤ
-program_layout = neg_ℤ (pos 1001)
-
+-- the layouts that this program reads
 abbrev pub IsOurLayout : ℤ → Type 0
 IsOurLayout layout = layout ≡ program_layout
 
@@ -89,11 +87,11 @@ abbrev pub HasServingPrevious : Dirs → ℕ → Type 0
 HasServingPrevious dirs i = saved (dirs.at i) ≢ None
 
 -- a chosen directory that has one
-abbrev pub IsHolder : Dirs → ℕ → Type 0
-IsHolder dirs i = IsAmongChosen dirs i × HasServingPrevious dirs i
+abbrev pub IsChosenWithPrevious : Dirs → ℕ → Type 0
+IsChosenWithPrevious dirs i = IsAmongChosen dirs i × HasServingPrevious dirs i
 
--- a holder whose previous can't be opened, for this reason
-pub record IsBadHolder (dirs : Dirs) (i : ℕ) (reason : PreviousWhy) : Type 0 where
+-- a chosen directory whose previous can't be opened, for this reason
+pub record HasBadPrevious (dirs : Dirs) (i : ℕ) (reason : PreviousWhy) : Type 0 where
   pub version : Version
   pub current : Folder
   pub end : Reached
@@ -123,10 +121,10 @@ Applies dirs intent (ForeignLayout i found) = IsLowest dirs.count (λ j. (layout
 Applies dirs intent (NoImage i reason) = IsLowest dirs.count (λ j. (version : Version) × (folder : Folder) × HasGreatestCtime dirs j version folder) i.0 × ((j : ℕ) (version : Version) (folder : Folder) (id : ℕ) → HasGreatestCtime dirs j version folder → ¬ HasIntact folder version id) × (version : Version) × (folder : Folder) × HasGreatestCtime dirs i.0 version folder × HasNoImage folder version reason
 Applies dirs intent (Gap seen last) = (version : Version) × (end : Reached) × SomeChosen dirs version end × (last ≡ end.last) × IsGreatestSeen dirs seen × (last + 1 < seen)
 Applies dirs intent (Spent last) = (version : Version) × (end : Reached) × SomeChosen dirs version end × (last ≡ end.last) × (2 ^ 62 ≤ last)
-Applies dirs intent (PreviousExists i) = (intent ≡ Upgrade) × IsLowest dirs.count (IsHolder dirs) i.0
-Applies dirs intent (CtimeSpent old) = (intent ≡ Upgrade) × (version : Version) × (end : Reached) × SomeChosen dirs version end × (version.ctime ≡ old) × (old ≡ 2 ^ 63 - 1) × ((i : ℕ) → ¬ IsHolder dirs i)
-Applies dirs intent NoPrevious = (intent ≡ Rollback) × ((i : ℕ) → ¬ IsHolder dirs i)
-Applies dirs intent (BadPrevious i reason) = (intent ≡ Rollback) × IsLowest dirs.count (λ j. (its : PreviousWhy) × IsBadHolder dirs j its) i.0 × IsBadHolder dirs i.0 reason
+Applies dirs intent (PreviousExists i) = (intent ≡ Upgrade) × IsLowest dirs.count (IsChosenWithPrevious dirs) i.0
+Applies dirs intent (CtimeSpent old) = (intent ≡ Upgrade) × (version : Version) × (end : Reached) × SomeChosen dirs version end × (version.ctime ≡ old) × (old ≡ 2 ^ 63 - 1) × ((i : ℕ) → ¬ IsChosenWithPrevious dirs i)
+Applies dirs intent NoPrevious = (intent ≡ Rollback) × ((i : ℕ) → ¬ IsChosenWithPrevious dirs i)
+Applies dirs intent (BadPrevious i reason) = (intent ≡ Rollback) × IsLowest dirs.count (λ j. (its : PreviousWhy) × HasBadPrevious dirs j its) i.0 × HasBadPrevious dirs i.0 reason
 
 -- the order of the tests; refusals of one test exclude each other
 abbrev pub test_of : Refusal → ℕ

@@ -7,8 +7,6 @@ mod intent;
 pub mod laws;
 mod refusal;
 mod refused;
-#[cfg(test)]
-mod tests;
 
 pub use fault::OpenFault;
 pub use intent::Intent;

@@ -21,7 +21,7 @@ use Rattle.nn_chain.specs.Images.{IsIntact}
 use Rattle.nn_chain.specs.Chain.{HasNoSegment, HasNoLater}
 use Rattle.nn_chain.proofs.BareLemmas.{bare_chain}
 use Rattle.nn_remake.specs.Made.{JustCurrent, IsMade, ReadsMade, Serves, FreshOrMadeIsLeft}
-use Rattle.nn_remake.proofs.ChainLemmas.{not_segment}
+use Rattle.nn_chain.proofs.SameLemmas.{not_segment}
 use Rattle.nn_remake.proofs.TableLemmas.{new_table, seven_by}
 use Rattle.nn_remake.proofs.MakingLemmas.{just_seven}
 

@@ -26,7 +26,8 @@ use Rattle.nn_remake.specs.Published.{IsPublished, IsOnlyOf, ReadsIntact}
 use Rattle.nn_remake.specs.Rank.{IsRanked, KeepsRank, ReadsRanked}
 use Rattle.nn_remake.proofs.BesideLemmas.{beside_refl, beside_trans, beside_set, of_image, of_digest, of_ckpt, of_tmp}
 use Rattle.nn_remake.proofs.LeftLemmas.{none_left}
-use Rattle.nn_remake.proofs.ChainLemmas.{SameBut, not_segment, rank_without, rank_with, rank_same}
+use Rattle.nn_chain.proofs.SameLemmas.{not_segment}
+use Rattle.nn_remake.proofs.ChainLemmas.{SameBut, rank_without, rank_with, rank_same}
 
 beside_sym : {A : Type 0} {id : ℕ} {old d : Held A} → BesideImage id old d → BesideImage id d old
 beside_sym p = record {

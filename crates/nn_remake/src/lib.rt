@@ -10,6 +10,3 @@ mod staging;
 pub use fault::MakeFault;
 pub use making::make;
 pub use publishing::publish;
-
-#[cfg(test)]
-mod tests;

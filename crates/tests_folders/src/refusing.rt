@@ -1,8 +1,8 @@
 // Refusals as they are said, and what refuses.
-use crate::{PreviousWhy, Refusal, first_of, unformattable, unusable};
 use nn_base::{DirNo, Txid};
 use nn_chain::ImageWhy;
 use nn_marks::{Key, VersionFault};
+use nn_pick::{PreviousWhy, Refusal, first_of, unformattable, unusable};
 use nn_state::{StorageState, Why};
 use std::test::Fail;
 

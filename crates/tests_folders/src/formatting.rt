@@ -1,27 +1,15 @@
-// Formats over a host in memory.
-use crate::format;
+// Formats of several directories.
+use crate::folder::{DIGEST_0, IMAGE_0, KEEPS, OTHERS, VERSION, has, has_sub, names};
 use nn_base::{DirNo, FileName, Sub, Txid};
 use nn_host::Host;
 use nn_marks::version_read;
-use nn_memhost::{Choice, Keep, MemHost, Part};
+use nn_memhost::{Choice, MemHost, Part};
+use nn_open::format;
 use nn_pick::{OpenFault, Refusal};
 use nn_small::read_all;
 use nn_state::{StorageState, Why, look, table};
 use std::alloc::Global;
 use std::test::Fail;
-
-const VERSION: &[u8] =
-    b"namespaceID=7\nclusterID=c1\ncTime=0\nstorageType=NAME_NODE\nblockpoolID=BP-7\nlayoutVersion=-1001\n";
-
-// The image of the empty namespace of the namespaceID 7 at the id 0, and its MD5 file.
-const EMPTY: &[u8] = b"HDFSIMG1\
-\x0d\x08\x07\x18\xe8\x07\x28\x80\x80\x80\x80\x04\x30\x00\
-\x02\x08\x02\x08\x08\x01\x12\x04hdfs\x0e\x08\x02\x12\x0asupergroup\
-\x06\x08\x81\x80\x01\x10\x01\x13\x08\x02\x10\x81\x80\x01\x1a\x00\x2a\x09\x08\x00\x20\x01\x28\x02\x30\xed\x03\
-\x46\x08\x01\x10\xe9\x07\x22\x0d\x0a\x07NS_INFO\x10\x0e\x18\x08\x22\x12\x0a\x0cSTRING_TABLE\x10\x1b\x18\x16\
-\x22\x0b\x0a\x05INODE\x10\x1b\x18\x31\x22\x0f\x0a\x09INODE_DIR\x10\x00\x18\x4c\x00\x00\x00\x47";
-
-const EMPTY_MD5: &[u8] = b"f3ba8c0faeee0795b7ba148b670dfc18 *fsimage_0000000000000000000\n";
 
 // How many calls look at a directory, and how many then make it.
 const SURVEY: u64 = 8;
@@ -44,29 +32,6 @@ fn state_of(host: &mut MemHost, i: DirNo) -> Option<Result<StorageState, Why>> {
         return None;
     }
     Some(table(look(host, i).ok()?))
-}
-
-fn has_bytes(alloc: Global, host: &mut MemHost, i: DirNo, name: FileName, bytes: &[u8]) -> bool {
-    if host.count() <= i.0 {
-        return false;
-    }
-    match read_all(alloc, host, i, Sub::Current, name, 65_536) {
-        Ok(found) => found.as_slice() == bytes,
-        Err(_) => false,
-    }
-}
-
-fn has_sub(host: &mut MemHost, i: DirNo, sub: Sub) -> bool {
-    i.0 < host.count() && host.has_sub(i, sub) == Ok(true)
-}
-
-// The names in `current`, or none where the host failed.
-fn names(alloc: Global, host: &mut MemHost, i: DirNo) -> Vec<FileName> {
-    let mut names = Vec::new(alloc);
-    if i.0 < host.count() {
-        let _ = host.list(i, Sub::Current, &mut names);
-    }
-    names
 }
 
 fn give(host: &mut MemHost, i: DirNo, sub: Sub, name: FileName) -> bool {
@@ -97,18 +62,11 @@ fn a_format_leaves_version_seen_txid_and_an_image_and_no_more(rt: HostRuntime) -
             FileName::Seen,
         ];
         assert!(rt; names.as_slice() == four.as_slice());
-        assert!(rt; has_bytes(alloc, &mut host, i, FileName::Version, VERSION));
-        assert!(rt; has_bytes(alloc, &mut host, i, FileName::Seen, b"0\n"));
-        assert!(rt; has_bytes(alloc, &mut host, i, FileName::Image(Txid(0)), EMPTY));
-        assert!(rt; has_bytes(alloc, &mut host, i, FileName::Md5(Txid(0)), EMPTY_MD5));
-        for sub in [
-            Sub::Previous,
-            Sub::PreviousTmp,
-            Sub::RemovedTmp,
-            Sub::FinalizedTmp,
-            Sub::LastCheckpointTmp,
-            Sub::PreviousCheckpoint,
-        ] {
+        assert!(rt; has(alloc, &mut host, i, FileName::Version, VERSION));
+        assert!(rt; has(alloc, &mut host, i, FileName::Seen, b"0\n"));
+        assert!(rt; has(alloc, &mut host, i, FileName::Image(Txid(0)), IMAGE_0));
+        assert!(rt; has(alloc, &mut host, i, FileName::Md5(Txid(0)), DIGEST_0));
+        for sub in OTHERS {
             assert!(rt; !has_sub(&mut host, i, sub));
         }
     }
@@ -162,9 +120,9 @@ fn is_whole(alloc: Global, host: &mut MemHost, i: DirNo) -> bool {
         Some(Ok(StorageState::NotFormatted)) => true,
         Some(Ok(StorageState::Normal)) => {
             reads_back(alloc, host, i)
-                && has_bytes(alloc, host, i, FileName::Seen, b"0\n")
-                && has_bytes(alloc, host, i, FileName::Image(Txid(0)), EMPTY)
-                && has_bytes(alloc, host, i, FileName::Md5(Txid(0)), EMPTY_MD5)
+                && has(alloc, host, i, FileName::Seen, b"0\n")
+                && has(alloc, host, i, FileName::Image(Txid(0)), IMAGE_0)
+                && has(alloc, host, i, FileName::Md5(Txid(0)), DIGEST_0)
         }
         _ => false,
     }
@@ -191,7 +149,7 @@ fn a_stop_inside_any_call_leaves_each_directory_unformatted_or_whole(
     assert!(rt; calls == 2 * (SURVEY + MAKE));
     for k in 0..calls {
         for done in [false, true] {
-            for keep in [Keep::Synced, Keep::Half, Keep::All, Keep::Torn] {
+            for keep in KEEPS {
                 let mut left = host.stopped_at(k, Choice { done, keep })?;
                 assert!(rt; is_whole(alloc, &mut left, DirNo(0)));
                 assert!(rt; is_whole(alloc, &mut left, DirNo(1)));
