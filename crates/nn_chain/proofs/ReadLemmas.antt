@@ -10,7 +10,6 @@ use Rattle.nn_host.specs.Moments.{State}
 use Rattle.nn_host.specs.Runs.{Looked}
 use Rattle.nn_chain.specs.declared.image.ReadImage.{ReadImage}
 use Rattle.nn_chain.specs.declared.image.ReadImage.TheVariants.{Failed, Unsound, Memory}
-use Rattle.nn_chain.specs.declared.why.ImageWhy.{ImageWhy}
 use Rattle.nn_chain.specs.declared.why.ImageWhy.TheVariants as why
 use Rattle.nn_chain.specs.Folder.{Folder, folder_at}
 use Rattle.nn_chain.specs.Images.{HasDigest, HasImage}
