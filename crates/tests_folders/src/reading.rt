@@ -87,8 +87,8 @@ fn an_image_reads_only_where_its_digest_its_id_and_its_cluster_agree(
         (ONE, ONE, (ONE, OF_1), VERSION, "named"),
         (ZERO, ZERO, (ZERO, DIGEST_0), OF_8, "named"),
     ];
-    for (asked, image, digest, version, word) in rows {
-        let told = word_of(read(rt.alloc(), asked, (image, IMAGE_0), digest, version)?);
+    for (asked, image, (of, digest), version, word) in rows {
+        let told = word_of(read(rt.alloc(), asked, (image, IMAGE_0), (of, digest), version)?);
         assert!(rt; told == word, "{told}");
     }
     Ok(())
