@@ -2,6 +2,5 @@ pub mod CutLemmas
 pub mod OctalLemmas
 pub mod EscapeLemmas
 pub mod ReadingLemmas
-pub mod KeepsLemmas
 pub mod SpacedLemmas
 pub mod PrintingLemmas

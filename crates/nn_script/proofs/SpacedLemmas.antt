@@ -3,7 +3,10 @@ use Rattle.std.proofs.Common.{◌≡◌, List, [], ◌∷◌, ◌++◌, refl, sy
 use Rattle.std.specs.Prelude.{codes}
 use Rattle.std.specs.List.{join_with_byte}
 use Rattle.nn_base.specs.Paths.{Bytes}
-use Rattle.nn_script.specs.Spelling.{line_of, spaced}
+use Rattle.nn_quota.specs.declared.quota.Usage.{Usage}
+use Rattle.nn_tree.specs.declared.node.Node.{Node}
+use Rattle.nn_script.specs.Spelling.{line_of, spaced, escaped}
+use Rattle.nn_script.specs.Listing.{sign_of, attributes, details, node_words, node_line}
 
 join-spaced : (word : Bytes) (words : List Bytes) → join_with_byte 32 (word ∷ words) ≡ word ++ spaced words
 join-spaced word [] = sym (append-nil word)
@@ -19,14 +22,10 @@ spaced_words words more last =
     ∙ ap (λ rest. spaced words ++ rest) (spaced-append more (last ∷ []) ∙ ap (λ rest. spaced more ++ 32 ∷ rest) (append-nil last))
 
 -- a first word, some words and some more, a last one and the newline
-pub line_in_pieces : (front first last : Bytes) (words more : List Bytes) →
-    ((((front ++ first) ++ spaced words) ++ spaced more) ++ 32 ∷ last) ++ codes "\n" ≡ front ++ line_of (first ∷ (words ++ (more ++ last ∷ [])))
-line_in_pieces front first last words more =
-    simp append_assoc (ap (λ line. front ++ line) (sym (ap (λ line. line ++ codes "\n") (join-spaced first (words ++ (more ++ last ∷ [])) ∙ ap (λ rest. first ++ rest) (spaced_words words more last)) ∙ simp append_assoc refl)))
+line_words : (first last : Bytes) (words more : List Bytes) → line_of (first ∷ (words ++ (more ++ last ∷ []))) ≡ (first ++ (spaced words ++ (spaced more ++ codes " "))) ++ (last ++ codes "\n")
+line_words first last words more =
+    ap (λ line. line ++ codes "\n") (join-spaced first (words ++ (more ++ last ∷ [])) ∙ ap (λ rest. first ++ rest) (spaced_words words more last)) ∙ simp append_assoc
 
--- the same over a buffer, one piece after another
-pub pieces_make_line : {a b c d e : Bytes} (front first sign last : Bytes) (words more : List Bytes) → sign ≡ first → a ≡ front ++ sign → b ≡ a ++ spaced words → c ≡ b ++ spaced more → d ≡ c ++ 32 ∷ last
-    → e ≡ d ++ codes "\n" → e ≡ front ++ line_of (first ∷ (words ++ (more ++ last ∷ [])))
-pieces_make_line front first sign last words more is a b c d e =
-    e ∙ ap (λ text. text ++ codes "\n") (d ∙ ap (λ text. text ++ 32 ∷ last) (c ∙ ap (λ text. text ++ spaced more) (b ∙ ap (λ text. text ++ spaced words) (a ∙ ap (λ text. front ++ text) is))))
-    ∙ line_in_pieces front first last words more
+-- the line of a node ends with its path
+pub node_line_is : (path : Bytes) (node : Node) (usage : Usage) → node_line path node usage ≡ node_words node usage ++ (escaped path ++ codes "\n")
+node_line_is path node usage = line_words (sign_of node.kind) (escaped path) (attributes node) (details node.kind usage)

@@ -2,6 +2,7 @@
 use Rattle.std.specs.Prelude.{◌≡◌, ◌≢◌, ℕ, ◌&&◌, nat_le, List, [], ◌∷◌, length, codes, Option, Some, None, Result, Ok, Err, if◌then◌else◌}
 use Rattle.std.specs.Option.{ok_or}
 use Rattle.std.specs.Str.{bytes_eq}
+use Rattle.nn_base.specs.Limits.{most_label}
 use Rattle.nn_base.specs.Paths.{Bytes, Names}
 use Rattle.nn_base.specs.Decimal.{number_in}
 use Rattle.nn_base.specs.PathText.{fault_of, parts_of}
@@ -60,7 +61,7 @@ text_at word = ok_or (unescaped word) Escape
 
 -- an owner or a group has 1 to 32 bytes
 abbrev pub label_of : Bytes → Result Bytes Syntax
-label_of text = if nat_le 1 (length text) && nat_le (length text) 32 then Ok text else Err Name
+label_of text = if nat_le 1 (length text) && nat_le (length text) most_label then Ok text else Err Name
 
 abbrev pub label_at : Bytes → Result Bytes Syntax
 label_at word = text_at word >>= label_of

@@ -9,7 +9,7 @@ use Rattle.nn_tree.specs.declared.node.Kind.{Kind}
 use Rattle.nn_tree.specs.declared.node.Kind.TheVariants.{File, Dir}
 use Rattle.nn_tree.specs.declared.node.Node.{Node}
 use Rattle.nn_tree.specs.Nodes.{blocks_of, length_of}
-use Rattle.nn_script.specs.Spelling.{escaped, line_of}
+use Rattle.nn_script.specs.Spelling.{escaped, line_of, spaced}
 
 -- four octal digits
 abbrev pub mode_text : ℕ → Bytes
@@ -34,6 +34,10 @@ details (File replication is_open blocks) usage = decimal replication ∷ open_t
 -- what both have
 abbrev pub attributes : Node → List Bytes
 attributes node = decimal node.id ∷ mode_text node.mode ∷ escaped node.owner ∷ escaped node.group ∷ decimal node.time ∷ []
+
+-- what stands in a node's line before its path
+abbrev pub node_words : Node → Usage → Bytes
+node_words node usage = sign_of node.kind ++ (spaced (attributes node) ++ (spaced (details node.kind usage) ++ codes " "))
 
 -- the line of a node at a path, which is given by its text
 abbrev pub node_line : Bytes → Node → Usage → Bytes

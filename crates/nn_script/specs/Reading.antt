@@ -2,6 +2,7 @@
 use Rattle.std.specs.Prelude.{ℕ, ◌^◌, ◌<◌, not, ◌==◌, nat_lt, List, [], ◌∷◌, length, Option, Some, None, Result, Ok, Err, if◌then◌else◌}
 use Rattle.std.specs.List.{list_all, list_any}
 use Rattle.std.specs.Option.{ok_or}
+use Rattle.nn_base.specs.Limits.{most_line}
 use Rattle.nn_base.specs.Paths.{Bytes}
 use Rattle.nn_quota.specs.declared.quota.Quota.{Quota}
 use Rattle.nn_ops.specs.declared.command.Command.{Command}
@@ -69,13 +70,13 @@ command_in (word ∷ args) = ok_or (verb_of word) Unknown >>= (λ verb. command_
 
 -- ---- the line
 
-abbrev pub command_of : Bytes → Result ScriptCommand Syntax
-command_of line =
-    if nat_lt 65535 (length line) then Err Long
+abbrev pub command_on : Bytes → Result ScriptCommand Syntax
+command_on line =
+    if nat_lt most_line (length line) then Err Long
     else if not (list_all is_line_byte line) then Err Byte
     else if list_any (λ word. length word == 0) (words line) then Err Words
     else command_in (words line)
 
 -- nothing, where the line has no answer
 unfoldable pub reading_of : Bytes → Result (Option ScriptCommand) Syntax
-reading_of line = if has_no_answer line then Ok None else command_of line >>= (λ command. Ok (Some command))
+reading_of line = if has_no_answer line then Ok None else command_on line >>= (λ command. Ok (Some command))

@@ -1,5 +1,5 @@
 -- How the lines of an answer are spelled.
-use Rattle.std.specs.Prelude.{◌≡◌, ◌≢◌, ℕ, ◌/◌, ◌%◌, Bool, not, ◌&&◌, ◌==◌, nat_le, List, [], ◌∷◌, ◌++◌, length, take, codes, if◌then◌else◌}
+use Rattle.std.specs.Prelude.{◌≢◌, ℕ, ◌/◌, ◌%◌, Bool, not, ◌&&◌, ◌==◌, nat_le, List, [], ◌∷◌, ◌++◌, codes, if◌then◌else◌}
 use Rattle.std.specs.List.{flat_map, join_with_byte}
 use Rattle.std.specs.Char.{digit_char}
 use Rattle.std.specs.Fmt.{decimal}
@@ -21,10 +21,6 @@ line_of words = join_with_byte 32 words ++ codes "\n"
 abbrev pub spaced : List Bytes → Bytes
 spaced [] = []
 spaced (word ∷ words) = 32 ∷ (word ++ spaced words)
-
--- what is in a text stays there, in front
-pub record Keeps (old new : Bytes) : Type 0 where
-  pub front : take (length old) new ≡ old
 
 -- ---- escapes
 

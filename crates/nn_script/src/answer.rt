@@ -1,12 +1,15 @@
 // What a line is answered.
-ghost use Rattle.std.specs.Prelude.{◌≡◌, ◌++◌, OnOk, OnErr};
+ghost use Rattle.std.specs.Prelude.{◌≡◌, ◌≤◌, ◌+◌, ◌++◌, length, vec_len, vec_capacity};
 ghost use Rattle.nn_script.specs.Spelling.{answer_text, spaced, syntax_words};
-ghost use Rattle.nn_script.specs.Spelling.{refusal_word, path_word, IsSaid, Keeps};
+ghost use Rattle.nn_script.specs.Spelling.{refusal_word, path_word, IsSaid};
 
 use crate::Syntax;
-use crate::append::{put, put_number, put_word, undone};
-use nn_base::{NoMemory, PathFault};
+use crate::append::{put, put_number, put_word};
+use nn_base::PathFault;
 use nn_ops::OpRefusal;
+
+/// The most bytes that the last line of an answer has: `ok COUNT` with a count of 20 digits.
+pub const MAX_ANSWER: usize = 24;
 
 /// The last line of an answer.
 #[derive(Clone, Copy, Debug, PartialEq, Eq)]
@@ -25,44 +28,39 @@ pub enum Answer {
 }
 
 impl Answer {
-    /// Appends the line. Where memory runs out nothing is appended.
-    pub fn text(self, out: &mut Vec<u8>) -> Result<(), NoMemory>
-        requires { IsSaid self }
-        ensures ok { OnOk result (out.new.items ≡ out.old.items ++ answer_text self) }
-        ensures err { OnErr result (out.new.items ≡ out.old.items) }
+    /// Appends the line to a buffer that has room for it, which takes no memory.
+    pub fn text(self, out: &mut Vec<u8>)
+        requires said { IsSaid self }
+        requires room { vec_len out.old + 24 ≤ vec_capacity out.old }
+        ensures text { out.new.items ≡ out.old.items ++ answer_text self }
+        ensures short { length (answer_text self) ≤ 24 }
+        ensures room { vec_capacity out.old ≤ vec_capacity out.new }
     {
-        let start = out.len();
-        let appended = append(self, out);
-        undone(start, appended, out)
+        match self {
+            Answer::Done => put(b"ok", out),
+            Answer::Count(count) => {
+                put(b"ok", out);
+                put_number(count, out);
+            }
+            Answer::Refused(refusal) => {
+                put(b"refused", out);
+                put_word(refusal_word(refusal).as_bytes(), out);
+            }
+            Answer::Dry => put(b"refused dry", out),
+            Answer::Unread(fault) => {
+                put(b"syntax", out);
+                put_fault(fault, out);
+            }
+        }
+        put(b"\n", out);
     }
 }
 
-fn append(answer: Answer, out: &mut Vec<u8>) -> Result<(), NoMemory>
-    ensures ok { OnOk result (out.new.items ≡ out.old.items ++ answer_text answer) }
-    ensures kept { Keeps out.old.items out.new.items }
-{
-    match answer {
-        Answer::Done => put(b"ok", out)?,
-        Answer::Count(count) => {
-            put(b"ok", out)?;
-            put_number(u128::from(count), out)?;
-        }
-        Answer::Refused(refusal) => {
-            put(b"refused", out)?;
-            put_word(refusal_word(refusal).as_bytes(), out)?;
-        }
-        Answer::Dry => put(b"refused dry", out)?,
-        Answer::Unread(fault) => {
-            put(b"syntax", out)?;
-            put_fault(fault, out)?;
-        }
-    }
-    put(b"\n", out)
-}
-
-fn put_fault(fault: Syntax, out: &mut Vec<u8>) -> Result<(), NoMemory>
-    ensures ok { OnOk result (out.new.items ≡ out.old.items ++ spaced (syntax_words fault)) }
-    ensures kept { Keeps out.old.items out.new.items }
+fn put_fault(fault: Syntax, out: &mut Vec<u8>)
+    requires room { vec_len out.old + 15 ≤ vec_capacity out.old }
+    ensures text { out.new.items ≡ out.old.items ++ spaced (syntax_words fault) }
+    ensures size { vec_len out.new ≤ vec_len out.old + 15 }
+    ensures room { vec_capacity out.old ≤ vec_capacity out.new }
 {
     match fault {
         Syntax::Long => put_word(b"long", out),
@@ -74,15 +72,16 @@ fn put_fault(fault: Syntax, out: &mut Vec<u8>) -> Result<(), NoMemory>
         Syntax::Escape => put_word(b"escape", out),
         Syntax::Name => put_word(b"name", out),
         Syntax::Path(fault) => {
-            put_word(b"path", out)?;
-            put_word(path_word(fault).as_bytes(), out)
+            put_word(b"path", out);
+            put_word(path_word(fault).as_bytes(), out);
         }
-        Syntax::Memory => Ok(()),
+        Syntax::Memory => (),
     }
 }
 
 fn path_word(fault: PathFault) -> &'static str
-    ensures { result.now ≡ path_word fault }
+    ensures word { result.now ≡ path_word fault }
+    ensures short { length result.now ≤ 9 }
 {
     match fault {
         PathFault::Empty => "empty",
@@ -96,7 +95,8 @@ fn path_word(fault: PathFault) -> &'static str
 }
 
 fn refusal_word(refusal: OpRefusal) -> &'static str
-    ensures { result.now ≡ refusal_word refusal }
+    ensures word { result.now ≡ refusal_word refusal }
+    ensures short { length result.now ≤ 9 }
 {
     match refusal {
         OpRefusal::Exists => "exists",

@@ -1,82 +1,68 @@
-// Pieces of a line, at the end of a buffer.
-ghost use Rattle.std.specs.Prelude.{◌≡◌, ◌<◌, ◌∷◌, ◌++◌, take, OnOk, OnErr};
+// Pieces of a line, at the end of a buffer that has room for them.
+ghost use Rattle.std.specs.Prelude.{◌≡◌, ◌<◌, ◌≤◌, ◌+◌, ◌*◌, ◌∷◌, ◌++◌, length, vec_len, vec_capacity};
 ghost use Rattle.std.specs.Char.{digit_char};
 ghost use Rattle.std.specs.Fmt.{decimal};
-ghost use Rattle.nn_script.specs.Spelling.{is_plain, escaped_byte, escaped, Keeps};
+ghost use Rattle.nn_script.specs.Spelling.{is_plain, escaped_byte, escaped};
 
 use itoa::Buffer;
-use nn_base::NoMemory;
 
-// A line that couldn't be finished is taken back.
-pub(crate) fn undone(
-    start: usize,
-    appended: Result<(), NoMemory>,
-    out: &mut Vec<u8>,
-) -> Result<(), NoMemory>
-    ensures same { result ≡ appended }
-    ensures ok { OnOk appended (out.new.items ≡ out.old.items) }
-    ensures err { OnErr appended (out.new.items ≡ take start out.old.items) }
+pub(crate) fn put(bytes: &[u8], out: &mut Vec<u8>)
+    requires room { vec_len out.old + length bytes.now ≤ vec_capacity out.old }
+    ensures text { out.new.items ≡ out.old.items ++ bytes.now }
+    ensures size { vec_len out.new ≡ vec_len out.old + length bytes.now }
+    ensures room { vec_capacity out.old ≤ vec_capacity out.new }
 {
-    if appended.is_err() {
-        out.truncate(start);
+    match out.extend_from_slice(bytes) {
+        Ok(()) => (),
+        Err(_) => unreachable!(),
     }
-    appended
-}
-
-pub(crate) fn put(bytes: &[u8], out: &mut Vec<u8>) -> Result<(), NoMemory>
-    ensures ok { OnOk result (out.new.items ≡ out.old.items ++ bytes.now) }
-    ensures kept { Keeps out.old.items out.new.items }
-{
-    out.extend_from_slice(bytes)?;
-    Ok(())
 }
 
 // A space and a word.
-pub(crate) fn put_word(word: &[u8], out: &mut Vec<u8>) -> Result<(), NoMemory>
-    ensures ok { OnOk result (out.new.items ≡ out.old.items ++ 32 ∷ word.now) }
-    ensures kept { Keeps out.old.items out.new.items }
+pub(crate) fn put_word(word: &[u8], out: &mut Vec<u8>)
+    requires room { vec_len out.old + 1 + length word.now ≤ vec_capacity out.old }
+    ensures text { out.new.items ≡ out.old.items ++ 32 ∷ word.now }
+    ensures size { vec_len out.new ≡ vec_len out.old + 1 + length word.now }
+    ensures room { vec_capacity out.old ≤ vec_capacity out.new }
 {
-    put(b" ", out)?;
-    put(word, out)
+    put(b" ", out);
+    put(word, out);
 }
 
-// A space and a number in decimal digits.
-pub(crate) fn put_number(number: u128, out: &mut Vec<u8>) -> Result<(), NoMemory>
-    ensures ok { OnOk result (out.new.items ≡ out.old.items ++ 32 ∷ decimal number) }
-    ensures kept { Keeps out.old.items out.new.items }
+// A space and a number in decimal digits, of which there are at most 20.
+pub(crate) fn put_number(number: u64, out: &mut Vec<u8>)
+    requires room { vec_len out.old + 21 ≤ vec_capacity out.old }
+    ensures text { out.new.items ≡ out.old.items ++ 32 ∷ decimal number }
+    ensures size { vec_len out.new ≤ vec_len out.old + 21 }
+    ensures room { vec_capacity out.old ≤ vec_capacity out.new }
 {
     let mut buffer = Buffer::new();
-    put_word(buffer.format(number).as_bytes(), out)
+    put_word(buffer.format(number).as_bytes(), out);
 }
 
-// A space and a text with its escapes.
-pub(crate) fn put_escaped(text: &[u8], out: &mut Vec<u8>) -> Result<(), NoMemory>
-    ensures ok { OnOk result (out.new.items ≡ out.old.items ++ 32 ∷ escaped text.now) }
-    ensures kept { Keeps out.old.items out.new.items }
-{
-    put(b" ", out)?;
-    put_bytes(text, out)
-}
-
-#[tactic(auto, using(crate::proofs::KeepsLemmas::keeps_trans))]
-fn put_bytes(text: &[u8], out: &mut Vec<u8>) -> Result<(), NoMemory>
-    ensures ok { OnOk result (out.new.items ≡ out.old.items ++ escaped text.now) }
-    ensures kept { Keeps out.old.items out.new.items }
+// A text with its escapes.
+pub(crate) fn put_escaped(text: &[u8], out: &mut Vec<u8>)
+    requires room { vec_len out.old + 3 * length text.now ≤ vec_capacity out.old }
+    ensures text { out.new.items ≡ out.old.items ++ escaped text.now }
+    ensures size { vec_len out.new ≤ vec_len out.old + 3 * length text.now }
+    ensures room { vec_capacity out.old ≤ vec_capacity out.new }
 {
     for byte in text {
-        put_byte(*byte, out)?;
+        put_byte(*byte, out);
     }
-    Ok(())
 }
 
-fn put_byte(byte: u8, out: &mut Vec<u8>) -> Result<(), NoMemory>
-    ensures ok { OnOk result (out.new.items ≡ out.old.items ++ escaped_byte byte) }
-    ensures kept { Keeps out.old.items out.new.items }
+fn put_byte(byte: u8, out: &mut Vec<u8>)
+    requires room { vec_len out.old + 3 ≤ vec_capacity out.old }
+    ensures text { out.new.items ≡ out.old.items ++ escaped_byte byte }
+    ensures size { vec_len out.new ≤ vec_len out.old + 3 }
+    ensures room { vec_capacity out.old ≤ vec_capacity out.new }
 {
     if is_plain(byte) {
-        return put(&[byte], out);
+        put(&[byte], out);
+        return;
     }
-    put(&[b'%', digit(byte / 16), digit(byte % 16)], out)
+    put(&[b'%', digit(byte / 16), digit(byte % 16)], out);
 }
 
 fn is_plain(byte: u8) -> bool

@@ -11,14 +11,12 @@ mod escape;
 mod line;
 mod listing;
 mod syntax;
-#[cfg(test)]
-mod tests;
 mod verb;
 mod words;
 
-pub use answer::Answer;
+pub use answer::{Answer, MAX_ANSWER};
 pub use command::ScriptCommand;
 pub use escape::escapes_read_back;
-pub use line::{MAX_LINE, line_read};
-pub use listing::{block_line, node_line};
+pub use line::line_read;
+pub use listing::{MAX_PART, block_line, name_text, node_words};
 pub use syntax::Syntax;

@@ -6,19 +6,17 @@ ghost use Rattle.nn_ops.specs.Commands.{IsCommand};
 ghost use Rattle.nn_script.specs.Lines.{has_no_answer};
 ghost use Rattle.nn_script.specs.Words.{words, words_behind, is_line_byte};
 ghost use Rattle.nn_script.specs.Arguments as arguments;
-ghost use Rattle.nn_script.specs.Reading.{reading_of, command_of, command_by, change_by, bare, IsInRange};
+ghost use Rattle.nn_script.specs.Reading.{reading_of, command_on, command_by, change_by, bare, IsInRange};
 
 use crate::argument::{label, mode, number, path, quota};
 use crate::verb::{Change, Verb};
 use crate::words::{first_word, no_word, one_word, three_words, two_words};
 use crate::{ScriptCommand, Syntax};
+use nn_base::limits::MOST_LINE;
 use nn_base::{Path, PathFault};
 use nn_ops::Command;
 use nn_quota::Quota;
 use std::alloc::Global;
-
-/// The longest line, in bytes.
-pub const MAX_LINE: usize = 65_535;
 
 /// What a line asks for. The line is given without its newline and the carriage return before that.
 /// None stands for a line without an answer: an empty one, and one that begins with `#`. The fault is
@@ -34,7 +32,7 @@ pub fn line_read(alloc: Global, line: &[u8]) -> Result<Option<ScriptCommand>, Sy
     if has_no_answer(line) {
         return Ok(None);
     }
-    let command = command_of(alloc, line)?;
+    let command = command_on(alloc, line)?;
     Ok(Some(command))
 }
 
@@ -47,11 +45,11 @@ fn has_no_answer(line: &[u8]) -> bool
     }
 }
 
-fn command_of(alloc: Global, line: &[u8]) -> Result<ScriptCommand, Syntax>
-    ensures value { arguments.Gives (λ command. command) result (command_of line.now) }
+fn command_on(alloc: Global, line: &[u8]) -> Result<ScriptCommand, Syntax>
+    ensures value { arguments.Gives (λ command. command) result (command_on line.now) }
     ensures range { IfOk result IsInRange }
 {
-    if MAX_LINE < line.len() {
+    if MOST_LINE < line.len() {
         return Err(Syntax::Long);
     }
     if !is_text(line) {

@@ -1,8 +1,7 @@
 // Why a line says no command.
 ghost use Rattle.std.specs.Prelude.{◌≡◌};
 
-use nn_base::{NoMemory, PathFault};
-use std::alloc::{AllocError, AllocFailed};
+use nn_base::{OutOfMemory, PathFault};
 use thiserror::Error;
 
 /// The first thing that is wrong with a line. The order: `Long`, `Byte`, `Words` for an empty word,
@@ -42,32 +41,12 @@ pub enum Syntax {
     Memory,
 }
 
-impl From<NoMemory> for Syntax {
+impl<M: OutOfMemory + Drop> From<M> for Syntax {
     ghost use Rattle.nn_script.specs.declared.syntax.Syntax.TheVariants.{Memory};
 
     ghost from_gives = { λ _ fault. fault ≡ Memory };
 
-    fn from(_: NoMemory) -> Syntax {
-        Syntax::Memory
-    }
-}
-
-impl From<AllocError> for Syntax {
-    ghost use Rattle.nn_script.specs.declared.syntax.Syntax.TheVariants.{Memory};
-
-    ghost from_gives = { λ _ fault. fault ≡ Memory };
-
-    fn from(_: AllocError) -> Syntax {
-        Syntax::Memory
-    }
-}
-
-impl<T: Drop> From<AllocFailed<T>> for Syntax {
-    ghost use Rattle.nn_script.specs.declared.syntax.Syntax.TheVariants.{Memory};
-
-    ghost from_gives = { λ _ fault. fault ≡ Memory };
-
-    fn from(_: AllocFailed<T>) -> Syntax {
+    fn from(_: M) -> Syntax {
         Syntax::Memory
     }
 }

@@ -7,4 +7,6 @@ mod ops;
 #[cfg(test)]
 mod quota;
 #[cfg(test)]
+mod script;
+#[cfg(test)]
 mod tree;

@@ -1,7 +1,8 @@
 use Rattle.std.proofs.Common.{◌+◌, ◌∷◌, sym, ap, ◌∙◌, take}
 use Rattle.std.specs.List.{slice_split}
 use Rattle.std.proofs.lemmas.List.{take_rest}
-use Rattle.nn_script.proofs.CutLemmas.{is_mark, cut_at, cut_nowhere}
+use Rattle.nn_base.proofs.MarkLemmas.{is_mark}
+use Rattle.nn_script.proofs.CutLemmas.{cut_at, cut_nowhere}
 use Rattle.nn_script.proofs.words.cut.Goals as goal
 
 pub returns-in-Some-clause-pieces : goal.returns-in-Some-clause-pieces
