@@ -1,12 +1,1 @@
-pub mod Words
-pub mod Options
-pub mod Commands
-pub mod FormatWords
-pub mod Lines
-pub mod States
-pub mod Format
-pub mod Answers
-pub mod Script
-pub mod Causes
-pub mod Dirs
-pub mod Ends
+pub mod Exit

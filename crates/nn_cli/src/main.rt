@@ -1,24 +1,13 @@
-//! The program `namenode`: its words, its answers and its exit status.
-//! What it does with name directories stands in the crates below.
+//! The program `namenode` over real folders, the real input and the real output: it reads the words, makes the host that they
+//! name, and hands both to the top call. It knows nothing else.
 #![tactic(auto)]
 
-mod format;
 mod real;
-mod run;
-mod states;
-#[cfg(test)]
-mod tests;
-mod words;
 
-pub use format::say_formatted;
-pub use nn_pick::Refusal;
-pub use nn_server::Status;
-pub use run::namenode;
-pub use states::say_states;
+use nn_top::Status;
 use std::env;
 use std::io::ErrorKind;
 use std::process::ExitCode;
-pub use words::{Command, WordsFault, command_of, dirs_of};
 
 fn main(rt: HostRuntime) -> ExitCode {
     let alloc = rt.alloc();

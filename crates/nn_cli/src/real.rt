@@ -1,16 +1,20 @@
 // Runs over real folders, the real input and the real output.
-ghost use Rattle.std.specs.Prelude.{◌≤◌, length};
-ghost use Rattle.nn_cli.specs.Words.{texts};
-ghost use Rattle.nn_cli.specs.Commands.{Ask, HaveNoReading};
+ghost use Rattle.std.specs.Prelude.{◌≡◌, ◌≤◌, length};
+ghost use Rattle.nn_top.specs.Words.{texts};
+ghost use Rattle.nn_top.specs.Wanted.{dirs_in};
+ghost use Rattle.nn_top.specs.Commands.{Asks, HaveNoReading};
+ghost use Rattle.nn_cli.specs.Exit.{ExitsBy};
 
-use crate::{Status, WordsFault, dirs_of, namenode};
 use nn_base::NoMemory;
 use nn_files::{FileHost, StdSource};
+use nn_top::{Status, WordsFault, dirs_of, namenode};
 use std::alloc::Global;
 use std::rt::Files;
 
 /// Does what the words ask for over the real folders that they name, and gives the exit status.
-pub fn run<R: Files + Print + Input + Drop>(rt: R, alloc: Global, words: &[String]) -> u8 {
+pub fn run<R: Files + Print + Input + Drop>(rt: R, alloc: Global, words: &[String]) -> u8
+    ensures { ExitsBy (texts words.now) result }
+{
     match dirs_of(alloc, words) {
         Ok(dirs) => run_over(rt, alloc, words, dirs),
         Err(WordsFault::Usage) => run_unread(rt, alloc, words),
@@ -24,7 +28,8 @@ fn run_over<R: Files + Print + Input + Drop>(
     words: &[String],
     dirs: Vec<String>,
 ) -> u8
-    requires { Ask (texts words.now) (texts dirs.items) }
+    requires { (wanted : _) × Asks (texts words.now) wanted × (texts dirs.items ≡ dirs_in wanted) }
+    ensures { ExitsBy (texts words.now) result }
 {
     let mut source = StdSource::new(&rt);
     match FileHost::open(rt, alloc, dirs) {
@@ -36,6 +41,7 @@ fn run_over<R: Files + Print + Input + Drop>(
 // Words without a reading name no folder.
 fn run_unread<R: Files + Print + Input + Drop>(rt: R, alloc: Global, words: &[String]) -> u8
     requires { HaveNoReading (texts words.now) }
+    ensures { ExitsBy (texts words.now) result }
 {
     let mut source = StdSource::new(&rt);
     match FileHost::open(rt, alloc, Vec::new(alloc)) {

@@ -2,6 +2,10 @@ pub mod BytesLemmas
 pub mod ReaderLemmas
 pub mod LinesLemmas
 pub mod LongLemmas
-pub mod EndsLemmas
+pub mod SayingLemmas
 pub mod DryLemmas
 pub mod ListingLemmas
+pub mod CameLemmas
+pub mod ShortLemmas
+pub mod StatesLemmas
+pub mod FormatLemmas

@@ -10,7 +10,8 @@ use Rattle.std.proofs.lemmas.Bool.Decides.{nat_tests}
 use Rattle.nn_base.specs.Paths.{Bytes}
 use Rattle.nn_script.specs.Lines.{lines_of, ended_lines, all_but_last}
 use Rattle.nn_server.specs.Reading.{IsUnended}
-use Rattle.nn_server.specs.Dry.{most_bytes, due_lines}
+use Rattle.nn_base.specs.Limits.{most_script}
+use Rattle.nn_server.specs.Dry.{due_lines}
 use Rattle.nn_server.proofs.BytesLemmas.{is_newline}
 
 -- these bytes are whole lines, so the parts of what follows are added to theirs
@@ -68,25 +69,25 @@ lines_unended body unended some = ap lines_of_parts (slice_split_none is_newline
 
 -- ---- the lines that are due
 
-pub due_short : (script : Bytes) → length script ≤ most_bytes → due_lines script ≡ lines_of script
+pub due_short : (script : Bytes) → length script ≤ most_script → due_lines script ≡ lines_of script
 due_short script short =
-    let e : nat_le (length script) most_bytes ≡ true = grind (arith, nat_tests) in
-    ap (λ b. if b then lines_of script else ended_lines (take most_bytes script)) e
+    let e : nat_le (length script) most_script ≡ true = grind (arith, nat_tests) in
+    ap (λ b. if b then lines_of script else ended_lines (take most_script script)) e
 
-pub due_long : (script : Bytes) → most_bytes < length script → due_lines script ≡ ended_lines (take most_bytes script)
+pub due_long : (script : Bytes) → most_script < length script → due_lines script ≡ ended_lines (take most_script script)
 due_long script long =
-    let e : nat_le (length script) most_bytes ≡ false = grind (arith, nat_tests) in
-    ap (λ b. if b then lines_of script else ended_lines (take most_bytes script)) e
+    let e : nat_le (length script) most_script ≡ false = grind (arith, nat_tests) in
+    ap (λ b. if b then lines_of script else ended_lines (take most_script script)) e
 
 take_behind : (n : ℕ) (done rest : Bytes) → length done ≤ n → take n (done ++ rest) ≡ done ++ take (n - length done) rest
 take_behind n done rest le = let e : n ≡ length done + (n - length done) = omega arith in ap (λ k. take k (done ++ rest)) e ∙ take-append-add done rest (n - length done)
 
 -- whole lines within the bytes that a script may have are due first
-pub due_first : {done : Bytes} {parts : List Bytes} (script rest : Bytes) → Ended done parts → script ≡ done ++ rest → length done ≤ most_bytes → (later : List Bytes) × (due_lines script ≡ stripped parts ++ later)
-due_first {done} {parts} script rest ended is within = elim (cases_lt most_bytes (length script)) [
+pub due_first : {done : Bytes} {parts : List Bytes} (script rest : Bytes) → Ended done parts → script ≡ done ++ rest → length done ≤ most_script → (later : List Bytes) × (due_lines script ≡ stripped parts ++ later)
+due_first {done} {parts} script rest ended is within = elim (cases_lt most_script (length script)) [
   | inl long ↦ (
-    ended_lines (take (most_bytes - length done) rest),
-    due_long script long ∙ ap (λ x. ended_lines (take most_bytes x)) is ∙ ap ended_lines (take_behind most_bytes done rest within) ∙ ended_done (take (most_bytes - length done) rest) ended,
+    ended_lines (take (most_script - length done) rest),
+    due_long script long ∙ ap (λ x. ended_lines (take most_script x)) is ∙ ap ended_lines (take_behind most_script done rest within) ∙ ended_done (take (most_script - length done) rest) ended,
   )
   | inr short ↦ (lines_of rest, due_short script short ∙ ap lines_of is ∙ lines_done rest ended)
 ]

@@ -7,7 +7,7 @@ use Rattle.std.proofs.lemmas.Bool.{cases_lt}
 use Rattle.std.proofs.lemmas.Bool.Decides.{nat_tests}
 use Rattle.nn_base.specs.Paths.{Bytes}
 use Rattle.nn_script.specs.Lines.{has_no_answer}
-use Rattle.nn_script.specs.Reading.{reading_of, command_of}
+use Rattle.nn_script.specs.Reading.{reading_of, command_on}
 use Rattle.nn_script.specs.Arguments.{◌>>=◌}
 use Rattle.nn_script.specs.declared.syntax.Syntax.TheVariants.{Long}
 
@@ -36,14 +36,14 @@ if_true : {A : Type 0} (b : Bool) (x y : A) → b ≡ true → (if b then x else
 if_true true x y e = refl
 if_true false x y e = absurd (cc e)
 
-long_command : (line : Bytes) → nat_lt 65535 (length line) ≡ true → command_of line ≡ Err Long
+long_command : (line : Bytes) → nat_lt 65535 (length line) ≡ true → command_on line ≡ Err Long
 long_command line e = if_true (nat_lt 65535 (length line)) (Err Long) _ e
 
 long_reading : (line : Bytes) → 65535 < length line → reading_of line ≡ (if has_no_answer line then Ok None else Err Long)
 unfolding reading_of
 long_reading line long =
     let e : nat_lt 65535 (length line) ≡ true = grind (arith, nat_tests) in
-    let read : (command_of line >>= (λ command. Ok (Some command))) ≡ Err Long = ap (λ r. r >>= (λ command. Ok (Some command))) (long_command line e) in
+    let read : (command_on line >>= (λ command. Ok (Some command))) ≡ Err Long = ap (λ r. r >>= (λ command. Ok (Some command))) (long_command line e) in
     ap (λ r. if has_no_answer line then Ok None else r) read
 
 alike : (a b : Bytes) → 65535 < length a → 65535 < length b → has_no_answer a ≡ has_no_answer b → reading_of a ≡ reading_of b

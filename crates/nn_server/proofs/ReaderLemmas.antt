@@ -12,7 +12,8 @@ use Rattle.nn_server.specs.declared.reader.Next.{Next}
 use Rattle.nn_server.specs.declared.reader.Next.TheVariants.{Line, Last, End, TooLong}
 use Rattle.nn_server.specs.Reading.{front_of, kept_of}
 use Rattle.nn_server.specs.Reader.{EndedLine, IsNext, Stopped, PartRead, HasRead, Refilled, IsPastRoom}
-use Rattle.nn_server.proofs.BytesLemmas.{is_newline, newline_at, unended_before, unended_whole, position_within_text, range_rest, front_front}
+use Rattle.nn_base.proofs.MarkLemmas.{split_at_mark, mark_within, no_mark_before, no_mark}
+use Rattle.nn_server.proofs.BytesLemmas.{is_newline, range_rest, front_front, no_bytes}
 
 pub has_read_nothing : {told : Type 0} (before : Bytes) (budget : ℕ) (line : Bytes) → line ≡ [] → HasRead told before before budget budget line
 has_read_nothing before budget line e = record { body = []; unended = All-nil (λ byte. is_newline byte ≡ false); is = e ∙ front_nil; bytes = λ tells. refl; budget = omega arith }
@@ -54,10 +55,6 @@ has_read_on {left = left} {ahead = ahead} so_far none taken same = record {
 
 length_kept : (n : ℕ) (body kept : Bytes) → 0 < n → kept ≡ take n body → (length kept ≡ 0 → length body ≡ 0) × (length body ≡ 0 → length kept ≡ 0)
 length_kept n body kept some e = (λ zero. omega (arith, ap length e, length-take n body), λ zero. omega (arith, ap length e, length-take n body))
-
-no_bytes : (bytes : Bytes) → length bytes ≡ 0 → bytes ≡ []
-no_bytes [] e = refl
-no_bytes (byte ∷ bytes) e = absurd (omega (arith, e))
 
 kept_some : {byte : ℕ} {bytes : Bytes} (body : Bytes) → byte ∷ bytes ≡ front_of body → body ≢ []
 kept_some {byte} {bytes} body e none = absurd (omega (arith, (length_kept 65537 body (byte ∷ bytes) (omega arith) e).1 (ap length none)))
@@ -129,20 +126,20 @@ pub part_ended : (chunk bytes : Bytes) (at end n : ℕ) (line more : Bytes) → 
     → more ≡ front_of (line ++ take n bytes) → PartRead true (slice_range chunk at end) (slice_range chunk (at + (n + 1)) end) line more
 part_ended chunk bytes at end n line more here e le within is = record {
   part = take n bytes;
-  unended = unended_before bytes n e;
-  ahead = sym here ∙ newline_at bytes n e ∙ ap (λ x. take n bytes ++ 10 ∷ x) (ap (drop (n + 1)) here ∙ range_rest chunk at end (n + 1) fits);
+  unended = no_mark_before 10 bytes n e;
+  ahead = sym here ∙ split_at_mark 10 bytes n e ∙ ap (λ x. take n bytes ++ 10 ∷ x) (ap (drop (n + 1)) here ∙ range_rest chunk at end (n + 1) fits);
   all = λ never. absurd (cc never);
   is = is;
 }
   where
     fits : at + (n + 1) ≤ end
-    fits = omega (arith, position_within_text bytes n e, ap length here, length-take (end - at) (drop at chunk), length-drop at chunk)
+    fits = omega (arith, mark_within 10 bytes n e, ap length here, length-take (end - at) (drop at chunk), length-drop at chunk)
 
 pub part_whole : (chunk bytes : Bytes) (at end : ℕ) (line more : Bytes) → bytes ≡ slice_range chunk at end → position is_newline bytes ≡ None
     → more ≡ front_of (line ++ bytes) → PartRead false (slice_range chunk at end) (slice_range chunk end end) line more
 part_whole chunk bytes at end line more here e is = record {
   part = bytes;
-  unended = unended_whole bytes e;
+  unended = no_mark 10 bytes e;
   ahead = sym here ∙ sym (append-nil bytes) ∙ ap (λ x. bytes ++ x) (sym none);
   all = λ is. none;
   is = is;

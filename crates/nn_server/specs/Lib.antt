@@ -1,7 +1,13 @@
 pub mod Codes
+pub mod Came
+pub mod Lines
+pub mod States
+pub mod Format
 pub mod Reading
 pub mod Reader
 pub mod Scene
 pub mod Listed
 pub mod Ends
+pub mod Saying
+pub mod Answered
 pub mod Dry

@@ -1,44 +1,50 @@
 // Running a script on a namespace in memory alone.
-ghost use Rattle.std.specs.Prelude.{◌≡◌, ◌≤◌, ◌+◌, ◌++◌, [], length, OnOk, IfErr};
-ghost use Rattle.nn_host.specs.Runs.{AllAnswered, Untouched};
-ghost use Rattle.nn_script.specs.Answers.{answer_of, first_state};
+ghost use Rattle.std.specs.Prelude.{◌≡◌, []};
+ghost use Rattle.nn_script.specs.Answers.{first_state};
 ghost use Rattle.nn_server.specs.Scene.{scene};
 ghost use Rattle.nn_server.specs.Reader.{ahead, budget};
-ghost use Rattle.nn_server.specs.Ends.{EndsBy, AnswerFalls};
-ghost use Rattle.nn_server.specs.Dry.{DrySays, IsReadBy, DryEnds};
+ghost use Rattle.nn_server.specs.Dry.{DryRan, dry_end};
 
-use crate::Status;
 use crate::reader::{LineReader, Next};
-use crate::say::say_whole;
-use crate::session::Session;
+use crate::session::{Session, Unsaid};
 use nn_base::NoMemory;
 use nn_host::{Failed, Host, Source};
 use nn_tree::{PlainTree, Tree};
 use std::alloc::Global;
 
+/// How a run over a script ends.
+#[derive(Clone, Copy, Debug, PartialEq, Eq)]
+pub enum DryEnd {
+    /// All lines were answered, and the script was read to its end.
+    Done,
+    /// A call of the source failed.
+    SourceFault,
+    /// The script has more than 2^26 bytes.
+    ScriptTooLong,
+    /// Memory ran out.
+    Memory,
+    /// The output failed: nothing more was said.
+    OutFault,
+}
+
 /// Answers the script of a source, line by line, on the empty namespace and at the time 0. It touches
 /// no directory: the lines that need one are answered `refused dry`.
 ///
-/// What was said are whole answers, but where the output failed. The last line of the status is left
-/// to the caller. A line is answered as soon as it was taken whole.
-pub fn dry<H: Host, S: Source>(alloc: Global, host: &mut H, source: &mut S) -> Status
-    ensures said { H.told → S.told →
-        (text : _) × ((H.state host.new).now.said ≡ (H.state host.old).now.said ++ text)
-        × DrySays (S.left source.old) (S.left source.new) result text }
-    ensures read { S.told → IsReadBy (S.left source.old) (S.left source.new) result }
-    ensures taken { S.told → (taken : _) × (S.left source.old ≡ taken ++ S.left source.new)
-        × (length taken ≤ 67108865) }
-    ensures kept { Untouched H.told (H.state host.old) (H.state host.new) }
-    ensures cause { EndsBy H.told (H.state host.old) (H.state host.new)
-        (S.faults source.old) (S.faults source.new) result }
+/// A line is answered as soon as it was taken whole. An answer goes out in one call of the output, and
+/// a listing of more than 65,536 bytes in several; where the output doesn't fail, what was said are
+/// whole answers. The last line of a status is left to the caller.
+#[tactic(auto, using(crate::proofs::DryLemmas::ending_unbegun))]
+pub fn dry<H: Host, S: Source>(alloc: Global, host: &mut H, source: &mut S) -> DryEnd
+    ensures { DryRan H.told S.told (S.left source.old) (S.left source.new) (S.faults source.old)
+        (S.faults source.new) (H.state host.old) (H.state host.new) result }
 {
     let mut reader = match LineReader::new(alloc) {
         Ok(reader) => reader,
-        Err(NoMemory) => return Status::Memory,
+        Err(NoMemory) => return DryEnd::Memory,
     };
     let mut session: Session<PlainTree> = match Session::new(alloc) {
         Ok(session) => session,
-        Err(NoMemory) => return Status::Memory,
+        Err(NoMemory) => return DryEnd::Memory,
     };
     answer_all(alloc, host, source, &mut reader, &mut session)
 }
@@ -50,51 +56,36 @@ fn answer_all<H: Host, S: Source, T: Tree>(
     source: &mut S,
     reader: &mut LineReader,
     session: &mut Session<T>,
-) -> Status
+) -> DryEnd
     requires ahead { ahead reader.old ≡ [] }
     requires budget { budget reader.old ≡ 67108864 }
     requires first { scene (T.meaning session.old.tree) session.old.time ≡ first_state }
-    ensures { DryEnds H.told S.told (S.left source.old) (S.left source.new)
-        (H.state host.old) (H.state host.new) (S.faults source.old) (S.faults source.new) result }
+    ensures { DryRan H.told S.told (S.left source.old) (S.left source.new) (S.faults source.old)
+        (S.faults source.new) (H.state host.old) (H.state host.new) result }
 {
     'lines: loop {
         match reader.next(source) {
-            Ok(Next::Line) => match answer_line(alloc, session, host, reader.line()) {
+            Ok(Next::Line) => match session.answer(alloc, host, reader.line()) {
                 Ok(()) => (),
-                Err(status) => return status,
+                Err(unsaid) => return dry_end(unsaid),
             },
-            Ok(Next::Last) => match answer_line(alloc, session, host, reader.line()) {
-                Ok(()) => return Status::Ok,
-                Err(status) => return status,
+            Ok(Next::Last) => match session.answer(alloc, host, reader.line()) {
+                Ok(()) => return DryEnd::Done,
+                Err(unsaid) => return dry_end(unsaid),
             },
-            Ok(Next::End) => return Status::Ok,
-            Ok(Next::TooLong) => return Status::ScriptTooLong,
-            Err(Failed) => return Status::SourceFault,
+            Ok(Next::End) => return DryEnd::Done,
+            Ok(Next::TooLong) => return DryEnd::ScriptTooLong,
+            Err(Failed) => return DryEnd::SourceFault,
         }
     }
 }
 
-// Says the answer to a line; it is made whole before the first of it is said.
-fn answer_line<H: Host, T: Tree>(
-    alloc: Global,
-    session: &mut Session<T>,
-    host: &mut H,
-    line: &[u8],
-) -> Result<(), Status>
-    ensures ok { OnOk result (AllAnswered H.told (H.state host.old) (H.state host.new)) }
-    ensures said { H.told → OnOk result ((H.state host.new).now.said ≡ (H.state host.old).now.said
-        ++ (answer_of (scene (T.meaning session.old.tree) session.old.time) line.now).text) }
-    ensures after { OnOk result (scene (T.meaning session.new.tree) session.new.time
-        ≡ (answer_of (scene (T.meaning session.old.tree) session.old.time) line.now).after) }
-    ensures err { IfErr result (λ status. AnswerFalls H.told (H.state host.old) (H.state host.new)
-        (answer_of (scene (T.meaning session.old.tree) session.old.time) line.now).text status) }
+// How a run ends whose last answer wasn't said whole.
+fn dry_end(unsaid: Unsaid) -> DryEnd
+    ensures { result ≡ dry_end unsaid }
 {
-    match session.answer(alloc, line) {
-        Ok(()) => (),
-        Err(NoMemory) => return Err(Status::Memory),
-    }
-    match say_whole(host, &session.reply) {
-        Ok(()) => Ok(()),
-        Err(Failed) => Err(Status::OutFault),
+    match unsaid {
+        Unsaid::Memory => DryEnd::Memory,
+        Unsaid::Output => DryEnd::OutFault,
     }
 }

@@ -1,109 +1,141 @@
 // The answer to `list`.
-ghost use Rattle.std.specs.Prelude.{◌≡◌, ◌++◌, true, length, Some, OnOk};
+ghost use Rattle.std.specs.Prelude.{◌≡◌, true, length, IfOk};
 ghost use Rattle.std.specs.List.{flat_map};
 ghost use Rattle.nn_base.specs.Paths.{joined, text_of};
 ghost use Rattle.nn_tree.specs.Limits.{IsNode};
 ghost use Rattle.nn_tree.specs.Nodes.{blocks_of};
+ghost use Rattle.nn_tree.specs.Spots.{IsSound};
 ghost use Rattle.nn_tree.specs.Below.{entries_below};
+ghost use Rattle.nn_script.specs.Spelling.{escaped};
 ghost use Rattle.nn_script.specs.Listing.{block_line as line_of_block};
 ghost use Rattle.nn_script.specs.Answers.{lines_at};
 ghost use Rattle.nn_server.specs.Listed.{listing_of};
+ghost use Rattle.nn_server.specs.Saying.{Says, Puts};
 
-use nn_base::NoMemory;
-use nn_script::{Answer, block_line, node_line};
+use crate::say::Speech;
+use nn_host::{Failed, Host};
 use nn_tree::{Block, Kind, Node, Spot, Tree, next_below};
-use std::alloc::Global;
 
-// Appends the lines of a node and of all below it, in the order of paths, and then how many nodes
-// these are.
-pub(crate) fn put_listing<T: Tree>(
-    alloc: Global,
+// Says the lines of a node and of all below it, in the order of paths, and then how many nodes these
+// are. It needs no memory, so that a listing is never left half said for want of it.
+pub(crate) fn say_listing<H: Host, T: Tree>(
+    host: &mut H,
     tree: &T,
     top: Spot,
-    out: &mut Vec<u8>,
-) -> Result<(), NoMemory>
+    speech: &mut Speech,
+) -> Result<(), Failed>
     requires { T.has tree.now top ≡ true }
-    ensures { OnOk result (out.new.items ≡ out.old.items
-        ++ listing_of (T.meaning tree.now).nodes (T.place tree.now top)) }
+    ensures { Says H.told (H.state host.old) (H.state host.new)
+        (listing_of (T.meaning tree.now).nodes (T.place tree.now top)) result }
 {
-    // That nodes are within their limits is told by the counters.
+    speech.begin();
+    let count = put_nodes(host, tree, top, speech)?;
+    speech.put_count(host, count)?;
+    speech.end(host)
+}
+
+// Puts the lines of a node and of all below it, and says how many nodes these are.
+fn put_nodes<H: Host, T: Tree>(
+    host: &mut H,
+    tree: &T,
+    top: Spot,
+    speech: &mut Speech,
+) -> Result<u64, Failed>
+    requires { T.has tree.now top ≡ true }
+    ensures puts { Puts H.told (H.state host.old) (H.state host.new) speech.old.waiting.items
+        (flat_map (lines_at (T.meaning tree.now).nodes)
+        (entries_below (T.meaning tree.now).nodes (T.place tree.now top)))
+        speech.new.waiting.items result }
+    ensures count { IfOk result (λ count. count
+        ≡ length (entries_below (T.meaning tree.now).nodes (T.place tree.now top))) }
+{
+    // That nodes are within their limits, and names are names, is told by the counters.
     let _counters = tree.counters();
-    let mut path = Vec::new(alloc);
     let mut count: u64 = 0;
     let mut next = Some(top);
     'nodes: while let Some(at) = next {
-        let node = tree.node(at);
-        put_node(tree, at, node, &mut path, out)?;
+        let after = next_below(tree, at, top);
+        put_node(host, tree, at, tree.node(at), speech)?;
         count += 1;
-        next = next_below(tree, at, top);
+        next = after;
     }
-    Answer::Count(count).text(out)
+    Ok(count)
 }
 
-// Appends the lines of a node. The text of its path is made in `path`, which may hold anything.
-fn put_node<T: Tree>(
+fn put_node<H: Host, T: Tree>(
+    host: &mut H,
     tree: &T,
     at: Spot,
     node: &Node,
-    path: &mut Vec<u8>,
-    out: &mut Vec<u8>,
-) -> Result<(), NoMemory>
+    speech: &mut Speech,
+) -> Result<(), Failed>
     requires there { T.has tree.now at ≡ true }
+    requires sound { IsSound (T.meaning tree.now) (T.has tree.now) (T.place tree.now) }
     requires bounds { IsNode node.now }
-    ensures { OnOk result (out.new.items ≡ out.old.items ++ lines_at (T.meaning tree.now).nodes
-        (record { 0 = T.place tree.now at; 1 = node.now })) }
+    ensures { Puts H.told (H.state host.old) (H.state host.new) speech.old.waiting.items
+        (lines_at (T.meaning tree.now).nodes (record { 0 = T.place tree.now at; 1 = node.now }))
+        speech.new.waiting.items result }
 {
-    path.clear();
-    put_path(tree, at, path)?;
-    node_line(path, node, tree.usage(at), out)?;
-    put_blocks_of(&node.kind, out)
+    speech.put_node(host, node, tree.usage(at))?;
+    put_path(host, tree, at, speech)?;
+    speech.put_bytes(host, b"\n")?;
+    put_blocks(host, blocks_of(&node.kind), speech)
 }
 
-fn put_blocks_of(kind: &Kind, out: &mut Vec<u8>) -> Result<(), NoMemory>
-    ensures { OnOk result (out.new.items ≡ out.old.items
-        ++ flat_map line_of_block (blocks_of kind.now)) }
+fn blocks_of(kind: &Kind) -> &[Block]
+    ensures { result.now ≡ blocks_of kind.now }
 {
     match kind {
-        Kind::File { blocks, .. } => put_blocks(&blocks.list, out),
-        Kind::Dir { .. } => Ok(()),
+        Kind::File { blocks, .. } => &blocks.list,
+        Kind::Dir { .. } => &[],
     }
 }
 
-fn put_blocks(blocks: &[Block], out: &mut Vec<u8>) -> Result<(), NoMemory>
-    ensures { OnOk result (out.new.items ≡ out.old.items ++ flat_map line_of_block blocks.now) }
+fn put_blocks<H: Host>(host: &mut H, blocks: &[Block], speech: &mut Speech) -> Result<(), Failed>
+    ensures { Puts H.told (H.state host.old) (H.state host.new) speech.old.waiting.items
+        (flat_map line_of_block blocks.now) speech.new.waiting.items result }
 {
     for block in blocks {
-        block_line(*block, out)?;
+        speech.put_block(host, *block)?;
     }
     Ok(())
 }
 
-// Appends the text of a node's path.
-fn put_path<T: Tree>(tree: &T, at: Spot, out: &mut Vec<u8>) -> Result<(), NoMemory>
-    requires { T.has tree.now at ≡ true }
-    ensures { OnOk result (out.new.items ≡ out.old.items ++ text_of (T.place tree.now at)) }
+// Puts the text of a node's path.
+fn put_path<H: Host, T: Tree>(
+    host: &mut H,
+    tree: &T,
+    at: Spot,
+    speech: &mut Speech,
+) -> Result<(), Failed>
+    requires there { T.has tree.now at ≡ true }
+    requires sound { IsSound (T.meaning tree.now) (T.has tree.now) (T.place tree.now) }
+    ensures { Puts H.told (H.state host.old) (H.state host.new) speech.old.waiting.items
+        (escaped (text_of (T.place tree.now at))) speech.new.waiting.items result }
 {
     match tree.parent(at) {
-        None => {
-            out.extend_from_slice(b"/")?;
-            Ok(())
-        }
-        Some(_) => put_names(tree, at, out),
+        None => speech.put_bytes(host, b"/"),
+        Some(_) => put_names(host, tree, at, speech),
     }
 }
 
-// Appends a `/` and a name for each level.
-fn put_names<T: Tree>(tree: &T, at: Spot, out: &mut Vec<u8>) -> Result<(), NoMemory>
-    requires { T.has tree.now at ≡ true }
-    ensures { OnOk result (out.new.items ≡ out.old.items ++ joined (T.place tree.now at)) }
+// Puts a `/` and a name for each level.
+fn put_names<H: Host, T: Tree>(
+    host: &mut H,
+    tree: &T,
+    at: Spot,
+    speech: &mut Speech,
+) -> Result<(), Failed>
+    requires there { T.has tree.now at ≡ true }
+    requires sound { IsSound (T.meaning tree.now) (T.has tree.now) (T.place tree.now) }
+    ensures { Puts H.told (H.state host.old) (H.state host.new) speech.old.waiting.items
+        (escaped (joined (T.place tree.now at))) speech.new.waiting.items result }
 {
     match tree.parent(at) {
         None => Ok(()),
         Some(parent) => {
-            put_names(tree, parent, out)?;
-            out.extend_from_slice(b"/")?;
-            out.extend_from_slice(tree.name(at))?;
-            Ok(())
+            put_names(host, tree, parent, speech)?;
+            speech.put_name(host, tree.name(at))
         }
     }
 }

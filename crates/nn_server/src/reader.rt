@@ -7,17 +7,15 @@ ghost use Rattle.nn_host.specs.Calls.{next_count};
 ghost use Rattle.nn_server.specs.Reading.{front_of, kept_of};
 
 use nn_base::NoMemory;
+use nn_base::limits::{MOST_LINE, MOST_SCRIPT};
 use nn_host::{Failed, Source};
 use std::alloc::Global;
-
-/// The most bytes that a script may have.
-pub const MAX_SCRIPT: usize = 67_108_864;
 
 /// The most bytes that are taken at once.
 const CHUNK: usize = 65_536;
 
 /// Of a line so many bytes are kept. One that is longer is too long even without a carriage return.
-const KEPT: usize = 65_537;
+const KEPT: usize = MOST_LINE + 2;
 
 /// What a reader has read.
 #[derive(Clone, Copy, Debug, PartialEq, Eq)]
@@ -63,7 +61,7 @@ impl LineReader {
             chunk,
             at: 0,
             end: 0,
-            room: MAX_SCRIPT,
+            room: MOST_SCRIPT,
             line,
         })
     }

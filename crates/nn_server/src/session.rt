@@ -1,26 +1,39 @@
 // The answers to single lines.
-ghost use Rattle.std.specs.Prelude.{◌≡◌, ◌<◌, ◌^◌, [], IfOk, OnOk};
+ghost use Rattle.std.specs.Prelude.{◌≡◌, ◌<◌, ◌^◌, IfOk, OnOk};
 ghost use Rattle.nn_ops.specs.Commands.{IsCommand};
 ghost use Rattle.nn_ops.specs.Step.{step};
 ghost use Rattle.nn_script.specs.Reading.{IsInRange};
+ghost use Rattle.nn_script.specs.Spelling.{IsSaid, answer_text};
 ghost use Rattle.nn_script.specs.Answers.{answer_of, reply_to, change_reply, list_text};
 ghost use Rattle.nn_script.specs.Answers.{first_state};
 ghost use Rattle.nn_server.specs.Scene.{scene};
+ghost use Rattle.nn_server.specs.Answered.{Answered, unless_failed};
+ghost use Rattle.nn_server.specs.Saying.{Says};
 
-use crate::listing::put_listing;
+use crate::listing::say_listing;
+use crate::say::Speech;
 use nn_base::{NoMemory, Path};
+use nn_host::{Failed, Host};
 use nn_ops::{Command, OpRefusal, apply, prepare};
 use nn_script::{Answer, ScriptCommand, Syntax, line_read};
 use nn_tree::{Tree, Walk};
 use std::alloc::Global;
 
-/// A namespace that the lines of a script change, what time it is there, and the answer to the last
-/// line.
+/// Why an answer wasn't said whole.
+#[derive(Clone, Copy, Debug, PartialEq, Eq)]
+pub(crate) enum Unsaid {
+    /// Memory ran out, before anything of the answer was said.
+    Memory,
+    /// The output failed.
+    Output,
+}
+
+/// A namespace that the lines of a script change, and what time it is there.
 #[derive(Drop)]
 pub(crate) struct Session<T: Tree> {
     pub(crate) tree: T,
     pub(crate) time: u64,
-    pub(crate) reply: Vec<u8>,
+    pub(crate) speech: Speech,
     ghost early: { time < 2 ^ 63 },
 }
 
@@ -33,53 +46,63 @@ impl<T: Tree> Session<T> {
         Ok(Session {
             tree: T::new(alloc)?,
             time: 0,
-            reply: Vec::new(alloc),
+            speech: Speech::new(alloc)?,
         })
     }
 
-    // Makes the answer to a line; without memory it may be any.
-    pub(crate) fn answer(&mut self, alloc: Global, line: &[u8]) -> Result<(), NoMemory>
-        ensures reply { OnOk result (self.new.reply.items
-            ≡ (answer_of (scene (T.meaning self.old.tree) self.old.time) line.now).text) }
-        ensures after { OnOk result (scene (T.meaning self.new.tree) self.new.time
-            ≡ (answer_of (scene (T.meaning self.old.tree) self.old.time) line.now).after) }
+    // Answers a line.
+    pub(crate) fn answer<H: Host>(
+        &mut self,
+        alloc: Global,
+        host: &mut H,
+        line: &[u8],
+    ) -> Result<(), Unsaid>
+        ensures { Answered H.told (H.state host.old) (H.state host.new)
+            (answer_of (scene (T.meaning self.old.tree) self.old.time) line.now)
+            (scene (T.meaning self.new.tree) self.new.time) result }
     {
-        self.reply.clear();
         match line_read(alloc, line) {
             Ok(None) => Ok(()),
-            Ok(Some(command)) => self.answer_to(alloc, command),
-            Err(Syntax::Memory) => Err(NoMemory),
-            Err(fault) => Answer::Unread(fault).text(&mut self.reply),
+            Ok(Some(command)) => self.answer_to(alloc, host, command),
+            Err(Syntax::Memory) => Err(Unsaid::Memory),
+            Err(fault) => unless_failed(self.speech.say(host, Answer::Unread(fault))),
         }
     }
 
-    fn answer_to(&mut self, alloc: Global, command: ScriptCommand) -> Result<(), NoMemory>
-        requires empty { self.old.reply.items ≡ [] }
-        requires range { IsInRange command }
-        ensures reply { OnOk result (self.new.reply.items
-            ≡ (reply_to (scene (T.meaning self.old.tree) self.old.time) command).text) }
-        ensures after { OnOk result (scene (T.meaning self.new.tree) self.new.time
-            ≡ (reply_to (scene (T.meaning self.old.tree) self.old.time) command).after) }
+    fn answer_to<H: Host>(
+        &mut self,
+        alloc: Global,
+        host: &mut H,
+        command: ScriptCommand,
+    ) -> Result<(), Unsaid>
+        requires { IsInRange command }
+        ensures { Answered H.told (H.state host.old) (H.state host.new)
+            (reply_to (scene (T.meaning self.old.tree) self.old.time) command)
+            (scene (T.meaning self.new.tree) self.new.time) result }
     {
         match command {
-            ScriptCommand::Namespace(change) => self.change(alloc, &change),
+            ScriptCommand::Namespace(change) => match self.change(alloc, &change) {
+                Ok(answer) => unless_failed(self.speech.say(host, answer)),
+                Err(NoMemory) => Err(Unsaid::Memory),
+            },
             ScriptCommand::Clock(time) => {
                 self.time = time;
-                Answer::Done.text(&mut self.reply)
+                unless_failed(self.speech.say(host, Answer::Done))
             }
-            ScriptCommand::List(path) => self.list(alloc, &path),
+            ScriptCommand::List(path) => unless_failed(self.list(host, &path)),
             ScriptCommand::Dirs
             | ScriptCommand::Roll
             | ScriptCommand::Checkpoint
             | ScriptCommand::Finalize
-            | ScriptCommand::Restore(_) => Answer::Dry.text(&mut self.reply),
+            | ScriptCommand::Restore(_) => unless_failed(self.speech.say(host, Answer::Dry)),
         }
     }
 
-    fn change(&mut self, alloc: Global, command: &Command) -> Result<(), NoMemory>
-        requires empty { self.old.reply.items ≡ [] }
-        requires range { IsCommand command.now }
-        ensures reply { OnOk result (self.new.reply.items ≡ (change_reply
+    // Does a change, or tells why it is refused.
+    fn change(&mut self, alloc: Global, command: &Command) -> Result<Answer, NoMemory>
+        requires { IsCommand command.now }
+        ensures said { IfOk result IsSaid }
+        ensures reply { IfOk result (λ answer. answer_text answer ≡ (change_reply
             (step (T.meaning self.old.tree) command.now self.old.time) self.old.time).text) }
         ensures after { OnOk result (scene (T.meaning self.new.tree) self.new.time
             ≡ (change_reply (step (T.meaning self.old.tree) command.now self.old.time)
@@ -88,24 +111,32 @@ impl<T: Tree> Session<T> {
         match prepare(alloc, &mut self.tree, command, self.time) {
             Ok(plan) => {
                 apply(&mut self.tree, plan);
-                Answer::Done.text(&mut self.reply)
+                Ok(Answer::Done)
             }
             Err(OpRefusal::Memory) => Err(NoMemory),
-            Err(refusal) => Answer::Refused(refusal).text(&mut self.reply),
+            Err(refusal) => Ok(Answer::Refused(refusal)),
         }
     }
 
-    fn list(&mut self, alloc: Global, path: &Path) -> Result<(), NoMemory>
-        requires empty { self.old.reply.items ≡ [] }
-        ensures reply { OnOk result
-            (self.new.reply.items ≡ list_text (T.meaning self.old.tree).nodes path.now) }
-        ensures tree { T.meaning self.new.tree ≡ T.meaning self.old.tree }
+    fn list<H: Host>(&mut self, host: &mut H, path: &Path) -> Result<(), Failed>
+        ensures says { Says H.told (H.state host.old) (H.state host.new)
+            (list_text (T.meaning self.old.tree).nodes path.now) result }
+        ensures tree { self.new.tree ≡ self.old.tree }
         ensures time { self.new.time ≡ self.old.time }
     {
         match self.tree.find(path) {
-            Walk::Found(top) => put_listing(alloc, &self.tree, top, &mut self.reply),
-            Walk::Missing => Answer::Refused(OpRefusal::NotFound).text(&mut self.reply),
-            Walk::ThroughFile => Answer::Refused(OpRefusal::NotDir).text(&mut self.reply),
+            Walk::Found(top) => say_listing(host, &self.tree, top, &mut self.speech),
+            Walk::Missing => self.speech.say(host, Answer::Refused(OpRefusal::NotFound)),
+            Walk::ThroughFile => self.speech.say(host, Answer::Refused(OpRefusal::NotDir)),
         }
+    }
+}
+
+fn unless_failed(said: Result<(), Failed>) -> Result<(), Unsaid>
+    ensures { result ≡ unless_failed said }
+{
+    match said {
+        Ok(()) => Ok(()),
+        Err(Failed) => Err(Unsaid::Output),
     }
 }

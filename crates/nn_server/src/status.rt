@@ -1,7 +1,8 @@
 // How a run of the program ends.
 ghost use Rattle.std.specs.Prelude.{◌≡◌};
-ghost use Rattle.nn_server.specs.Codes.{code_of};
+ghost use Rattle.nn_server.specs.Codes.{code_of, dry_status};
 
+use crate::DryEnd;
 use nn_base::DirNo;
 use nn_pick::Refusal;
 
@@ -40,6 +41,21 @@ impl Status {
             Status::ScriptTooLong => 6,
             Status::Memory => 7,
             Status::OutFault => 8,
+        }
+    }
+}
+
+impl DryEnd {
+    /// The status of a run of the program that ends so.
+    pub fn status(self) -> Status
+        ensures { result ≡ dry_status self }
+    {
+        match self {
+            DryEnd::Done => Status::Ok,
+            DryEnd::SourceFault => Status::SourceFault,
+            DryEnd::ScriptTooLong => Status::ScriptTooLong,
+            DryEnd::Memory => Status::Memory,
+            DryEnd::OutFault => Status::OutFault,
         }
     }
 }

@@ -1,17 +1,24 @@
-use Rattle.std.proofs.Common.{arith, ap, length}
+use Rattle.std.proofs.Common.{arith, ap, sym, length, ◌∙◌}
 use Rattle.std.proofs.lemmas.List.{length-map}
 use Rattle.std.specs.String.{string_bytes}
 use Rattle.nn_host.specs.Moments.{State}
-use Rattle.nn_cli.specs.Words.{texts}
-use Rattle.nn_cli.proofs.CommandLemmas.{Ask-few}
-use Rattle.nn_cli.proofs.LineLemmas.{Ask-unique}
+use Rattle.nn_top.specs.Words.{texts}
+use Rattle.nn_top.specs.Wanted.{Wanted, dirs_in}
+use Rattle.nn_top.proofs.LineLemmas.{Asks-few, Asks-unique}
+use Rattle.nn_cli.proofs.ExitLemmas.{exits_starved, exits_done}
 use Rattle.nn_cli.proofs.real.run_over.Goals as goal
 
 pub open-requires : goal.open-requires
-open-requires g c = omega (arith, Ask-few _ _ c.requires, length-map c.args.dirs.items string_bytes)
+open-requires g c = omega (arith, Asks-few (texts c.args.words.now) c.requires.0 c.requires.1, ap length c.requires.2, length-map c.args.dirs.items string_bytes)
 
 pub namenode-requires : goal.namenode-requires
-namenode-requires g c = λ dirs asks.
-    let same = ap length (Ask-unique (texts c.args.words.now) (texts c.args.dirs.items) dirs c.requires asks) in
+namenode-requires g c = λ wanted asks.
+    let same = ap (λ (w : Wanted). length (dirs_in w)) (Asks-unique (texts c.args.words.now) c.requires.0 wanted c.requires.1 asks) in
     let count = ap (λ (s : State). s.count) c.in-Ok.ensures in
-    omega (arith, same, count, length-map c.args.dirs.items string_bytes)
+    omega (arith, same, count, ap length c.requires.2, length-map c.args.dirs.items string_bytes)
+
+pub returns-in-Ok : goal.returns-in-Ok
+returns-in-Ok g c = exits_done (texts c.args.words.now) c.requires.0 c.namenode.result c.code.result c.requires.1 c.code.ensures c.namenode.ensures.usage_only
+
+pub returns : goal.returns
+returns g c = exits_starved (texts c.args.words.now) c.code-in-Err.result c.code-in-Err.ensures

@@ -1,7 +1,8 @@
 use Rattle.std.proofs.Common.{◌∙◌, refl, ap}
 use Rattle.nn_host.specs.Calls.{next_count}
+use Rattle.nn_server.specs.Scene.{scene}
 use Rattle.nn_server.specs.Reader.{ahead, budget}
-use Rattle.nn_server.proofs.DryLemmas.{so_far_nothing, so_far_more, line_read_so, last_read_so, none_read_so, past_read_so, ending_done, ending_long, ending_failed, ending_fallen, ending_last, ending_last_fallen}
+use Rattle.nn_server.proofs.DryLemmas.{so_far_nothing, so_far_more, line_read_so, last_read_so, none_read_so, past_read_so, line_due, last_line_due, ending_done, ending_last, ending_long, ending_failed, ending_unsaid}
 use Rattle.nn_server.proofs.dry_run.answer_all.Goals as goal
 
 pub lines-init : goal.lines-init
@@ -9,31 +10,6 @@ lines-init g c = record {
   so_far = so_far_nothing (g.S.Source.left c.args.source.now) (ahead c.args.reader.now) (budget c.args.reader.now) c.requires.ahead c.requires.budget c.requires.first;
   faults = refl;
 }
-
-pub lines-preserved : goal.lines-preserved
-lines-preserved g c =
-    let line = line_read_so c.in-Ok-Line.field-0 c.in-Ok-Line.field-0-is c.line.ensures c.in-Ok-Line.ensures.ok in record {
-      so_far = so_far_more c.lines.invariant.so_far line c.in-Ok.ensures.ok c.in-Ok.ensures.said c.in-Ok.ensures.after;
-      faults = c.in-Ok-Line.ensures.counted_ok ∙ c.lines.invariant.faults;
-    }
-
-pub returns-in-Err-answer_line : goal.returns-in-Err-answer_line
-returns-in-Err-answer_line g c =
-    let line = line_read_so c.in-Ok-Line.field-0 c.in-Ok-Line.field-0-is c.line.ensures c.in-Ok-Line.ensures.ok in
-    ending_fallen (ahead c.next.new.self) (g.S.Source.left c.next.new.source) c.next.new.self.room c.in-Err-answer_line.status c.lines.invariant.so_far line c.in-Err-answer_line.ensures.err
-    (c.in-Ok-Line.ensures.counted_ok ∙ c.lines.invariant.faults)
-
-pub returns-in-Ok-answer_line : goal.returns-in-Ok-answer_line
-returns-in-Ok-answer_line g c =
-    let last = last_read_so c.in-Ok-Last.field-0 c.in-Ok-Last.field-0-is c.line-in-Ok-Last.ensures c.in-Ok-Last.ensures.ok in
-    let said = c.in-Ok-answer_line.ensures in
-    ending_last (ahead c.next.new.self) (g.S.Source.left c.next.new.source) c.lines.invariant.so_far last said.ok said.said (c.in-Ok-Last.ensures.counted_ok ∙ c.lines.invariant.faults)
-
-pub returns-in-Err-answer_line-2 : goal.returns-in-Err-answer_line-2
-returns-in-Err-answer_line-2 g c =
-    let last = last_read_so c.in-Ok-Last.field-0 c.in-Ok-Last.field-0-is c.line-in-Ok-Last.ensures c.in-Ok-Last.ensures.ok in
-    ending_last_fallen (ahead c.next.new.self) (g.S.Source.left c.next.new.source) c.in-Err-answer_line-2.status c.lines.invariant.so_far last c.in-Err-answer_line-2.ensures.err
-    (c.in-Ok-Last.ensures.counted_ok ∙ c.lines.invariant.faults)
 
 pub returns-in-Ok-End : goal.returns-in-Ok-End
 returns-in-Ok-End g c = ending_done (ahead c.next.new.self) (g.S.Source.left c.next.new.source) c.lines.invariant.so_far
@@ -46,3 +22,29 @@ returns-in-Ok-TooLong g c = ending_long (ahead c.next.new.self) (g.S.Source.left
 
 pub returns-in-Err : goal.returns-in-Err
 returns-in-Err g c = ending_failed (g.S.Source.left c.next.new.source) c.lines.invariant.so_far c.in-Err.ensures.err (c.in-Err.ensures.counted_err ∙ ap next_count c.lines.invariant.faults)
+
+pub lines-preserved : goal.lines-preserved
+lines-preserved g c =
+    let line = line_read_so c.in-Ok-Line.field-0 c.in-Ok-Line.field-0-is c.line.ensures c.in-Ok-Line.ensures.ok in record {
+      so_far = so_far_more (ahead c.next.new.self) (g.S.Source.left c.next.new.source) c.next.new.self.room c.lines.invariant.so_far line c.in-Ok.ensures;
+      faults = c.in-Ok-Line.ensures.counted_ok ∙ c.lines.invariant.faults;
+    }
+
+pub returns-in-Err-answer : goal.returns-in-Err-answer
+returns-in-Err-answer g c =
+    let line = line_read_so c.in-Ok-Line.field-0 c.in-Ok-Line.field-0-is c.line.ensures c.in-Ok-Line.ensures.ok in
+    let due = line_due (ahead c.next.new.self) (g.S.Source.left c.next.new.source) c.next.new.self.room c.lines.invariant.so_far line in
+    ending_unsaid (scene (g.T.Tree.meaning c.answer.new.self.tree) c.answer.new.self.time) c.in-Err-answer.unsaid c.lines.invariant.so_far.says due c.in-Err-answer.ensures
+    (c.in-Ok-Line.ensures.counted_ok ∙ c.lines.invariant.faults) c.dry_end.ensures
+
+pub returns-in-Ok-answer : goal.returns-in-Ok-answer
+returns-in-Ok-answer g c =
+    let last = last_read_so c.in-Ok-Last.field-0 c.in-Ok-Last.field-0-is c.line-in-Ok-Last.ensures c.in-Ok-Last.ensures.ok in
+    ending_last (ahead c.next.new.self) (g.S.Source.left c.next.new.source) c.lines.invariant.so_far last c.in-Ok-answer.ensures.0 (c.in-Ok-Last.ensures.counted_ok ∙ c.lines.invariant.faults)
+
+pub returns-in-Err-answer-2 : goal.returns-in-Err-answer-2
+returns-in-Err-answer-2 g c =
+    let last = last_read_so c.in-Ok-Last.field-0 c.in-Ok-Last.field-0-is c.line-in-Ok-Last.ensures c.in-Ok-Last.ensures.ok in
+    let due = last_line_due (ahead c.next.new.self) (g.S.Source.left c.next.new.source) c.lines.invariant.so_far last in
+    ending_unsaid (scene (g.T.Tree.meaning c.answer-in-Ok-Last.new.self.tree) c.answer-in-Ok-Last.new.self.time) c.in-Err-answer-2.unsaid c.lines.invariant.so_far.says due c.in-Err-answer-2.ensures
+    (c.in-Ok-Last.ensures.counted_ok ∙ c.lines.invariant.faults) c.dry_end-in-Err-answer-2.ensures

@@ -1,13 +1,24 @@
-use Rattle.std.proofs.Common.{◌≡◌, ◌++◌, sym, ◌∙◌, subst}
-use Rattle.std.specs.Prelude.{OnOk}
+use Rattle.std.proofs.Common.{◌∙◌, sym, ap, subst}
 use Rattle.nn_base.specs.Paths.{Bytes}
 use Rattle.nn_server.specs.Listed.{listing_of}
-use Rattle.nn_server.proofs.ListingLemmas.{listed}
+use Rattle.nn_server.specs.Saying.{Says}
+use Rattle.nn_server.proofs.ListingLemmas.{listed, missing, through_file}
 use Rattle.nn_server.proofs.session.Session.list.Goals as goal
 
-pub returns-in-Found-clause-reply : goal.returns-in-Found-clause-reply
-returns-in-Found-clause-reply g c =
+pub returns-in-Found-clause-says : goal.returns-in-Found-clause-says
+returns-in-Found-clause-says g c =
     let m = (g.T.Tree.meaning c.args.self.now.tree).nodes in
     let found = c.in-Found.ensures.walk in
-    subst (λ (text : Bytes). OnOk c.put_listing.result (c.put_listing.new.out.items ≡ text))
-    ((λ i. c.requires.empty i ++ listing_of m (found.1 i)) ∙ sym (listed m c.args.path.now found.3 found.2)) c.put_listing.ensures
+    subst (λ (text : Bytes). Says g.H.Host.told (g.H.Host.state c.args.host.now) (g.H.Host.state c.say_listing.new.host) text c.say_listing.result)
+    (ap (listing_of m) found.1 ∙ sym (listed m c.args.path.now found.3 found.2)) c.say_listing.ensures
+
+pub returns-in-Missing-clause-says : goal.returns-in-Missing-clause-says
+returns-in-Missing-clause-says g c =
+    let m = (g.T.Tree.meaning c.args.self.now.tree).nodes in
+    let walk = c.in-Missing.ensures.walk in
+    subst (λ (text : Bytes). Says g.H.Host.told (g.H.Host.state c.args.host.now) (g.H.Host.state c.say.new.host) text c.say.result) (sym (missing m c.args.path.now walk.0 walk.1)) c.say.ensures
+
+pub returns-in-ThroughFile-clause-says : goal.returns-in-ThroughFile-clause-says
+returns-in-ThroughFile-clause-says g c =
+    let m = (g.T.Tree.meaning c.args.self.now.tree).nodes in
+    subst (λ (text : Bytes). Says g.H.Host.told (g.H.Host.state c.args.host.now) (g.H.Host.state c.say-in-ThroughFile.new.host) text c.say-in-ThroughFile.result) (sym (through_file m c.args.path.now c.in-ThroughFile.ensures.walk)) c.say-in-ThroughFile.ensures

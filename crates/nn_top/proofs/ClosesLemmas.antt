@@ -1,0 +1,124 @@
+-- The last line of a run, behind what its command said.
+use Rattle.std.proofs.Common.{◌≡◌, ◌⊎◌, inl, inr, ⊎_elim, ℕ, Bool, true, false, List, [], ◌++◌, take, drop, if◌then◌else◌, Result, Ok, Err, refl, sym, ◌∙◌, ap, subst, append_assoc}
+use Rattle.std.proofs.lemmas.List.{append-nil, take-append-drop}
+use Rattle.nn_base.specs.Paths.{Bytes}
+use Rattle.nn_host.specs.Disk.{Reads}
+use Rattle.nn_host.specs.Moments.{Dir, Entry, State}
+use Rattle.nn_host.specs.Calls.{Spoke, next_count}
+use Rattle.nn_host.proofs.RunsLemmas.{out_whole_refl, out_whole_trans, out_spoke, silent_after, silent_spoke, spoke_front, untouched_refl, untouched_spoke}
+use Rattle.nn_server.specs.declared.status.Status.{Status}
+use Rattle.nn_server.specs.declared.status.Status.TheVariants as outcome
+use Rattle.nn_server.specs.Came.{is_out_fault, Speaks, TouchesNoDir}
+use Rattle.nn_server.proofs.CameLemmas.{spoke_on}
+use Rattle.nn_top.specs.Lines.{last_line}
+use Rattle.nn_top.specs.Closes.{is_made, IsLast, ClosesWhole, ClosesCut, Closes, Closing}
+
+-- ---- the ways to close
+
+touched_refl : {told : Type 0} {a : State} → TouchesNoDir told a a
+touched_refl = record { kept = untouched_refl; faults = λ j. refl; reads = λ tells j. refl }
+
+touched_spoke : {T E told : Type 0} {bytes : Bytes} {a b : State} {result : Result T E} → Spoke told bytes a b result → TouchesNoDir told a b
+touched_spoke spoke = record {
+  kept = untouched_spoke spoke;
+  faults = λ j. ap (λ (dirs : ℕ → Dir). (dirs j).faults) spoke.dirs;
+  reads = λ tells j. ap (λ (r : ℕ → Reads). r j) spoke.reads;
+}
+
+-- done work has no last line
+pub closes_done : {told : Type 0} {a : State} → Closing told a a outcome.Ok outcome.Ok
+closes_done {a = a} = record {
+  dirs = touched_refl;
+  calls = λ tells. ([], sym (append-nil a.trace));
+  ends = inr (refl, inl (record { is_last = inl refl; unfailed = refl; said = λ tells. sym (append-nil a.now.said); counted = refl; whole = out_whole_refl }));
+}
+
+-- nor has an output that failed
+pub closes_silent : {told : Type 0} {a : State} → Closing told a a outcome.OutFault outcome.OutFault
+closes_silent {a = a} = record { dirs = touched_refl; calls = λ tells. ([], sym (append-nil a.trace)); ends = inl (refl, refl, refl) }
+
+-- a last line was said
+pub closes_said : {T E told : Type 0} {line : Bytes} {a b : State} {v : T} (status last : Status) → IsLast status last → is_out_fault status ≡ false → is_out_fault last ≡ false → line ≡ last_line last
+    → Spoke {T = T} {E = E} told line a b (Ok v) → Closing told a b status last
+closes_said {a = a} status last is_last unfailed' unfailed is spoke = record {
+  dirs = touched_spoke spoke;
+  calls = spoke_on _ spoke;
+  ends = inr (
+    unfailed',
+    inl (record {
+      is_last = is_last;
+      unfailed = unfailed;
+      said = λ tells. (spoke.ok tells).said ∙ ap (λ (text : Bytes). a.now.said ++ text) is;
+      counted = spoke.counted_ok;
+      whole = out_spoke spoke;
+    }),
+  );
+}
+
+-- the output failed over it
+pub closes_cut : {T E told : Type 0} {line : Bytes} {a b : State} {e : E} (status last : Status) → IsLast status last → is_out_fault status ≡ false → line ≡ last_line last
+    → Spoke {T = T} {E = E} told line a b (Err e) → Closing told a b status outcome.OutFault
+closes_cut {line = line} status last is_last unfailed is spoke = record {
+  dirs = touched_spoke spoke;
+  calls = spoke_on _ spoke;
+  ends = inr (
+    unfailed,
+    inr (record {
+      last = last;
+      is_last = is_last;
+      failed = refl;
+      said = λ tells. let front = spoke_front spoke tells in (take front.0 line, drop front.0 line, sym is ∙ sym (take-append-drop front.0 line), front.1);
+      counted = spoke.counted_err;
+      silent = silent_spoke spoke;
+    }),
+  );
+}
+
+-- ---- behind what a command said
+
+after_silence : {told : Type 0} {a b : State} {lines : Bytes} → Speaks told a b lines outcome.OutFault → Closes told a b lines outcome.OutFault outcome.OutFault
+after_silence {lines = lines} speaks = inr (record {
+  last = outcome.OutFault;
+  is_last = inl refl;
+  failed = refl;
+  said = λ tells. (lines, [], refl, speaks.said tells);
+  counted = speaks.counted;
+  silent = speaks.silent;
+})
+
+counted_whole : {told : Type 0} {a b : State} {lines : Bytes} (status : Status) → is_out_fault status ≡ false → Speaks told a b lines status → b.now.out_faults ≡ a.now.out_faults
+counted_whole {a = a} status unfailed speaks = speaks.counted ∙ ap (λ (failed : Bool). if failed then next_count a.now.out_faults else a.now.out_faults) unfailed
+
+after_lines : {told : Type 0} {a b c : State} {lines : Bytes} (status result : Status) → is_out_fault status ≡ false → Speaks told a b lines status → Closes told b c [] status result → Closes told a c lines status result
+after_lines {a = a} {lines = lines} status result unfailed speaks (inl all) = inl (record {
+  is_last = all.is_last;
+  unfailed = all.unfailed;
+  said = λ tells. all.said tells ∙ ap (λ (text : Bytes). text ++ last_line result) (speaks.said tells) ∙ append_assoc a.now.said lines (last_line result);
+  counted = all.counted ∙ counted_whole status unfailed speaks;
+  whole = out_whole_trans (speaks.whole unfailed) all.whole;
+})
+after_lines {a = a} {lines = lines} status result unfailed speaks (inr front) = inr (record {
+  last = front.last;
+  is_last = front.is_last;
+  failed = front.failed;
+  said = λ tells.
+      let cut = front.said tells in (
+        lines ++ cut.0,
+        cut.1,
+        ap (λ (text : Bytes). lines ++ text) cut.2 ∙ sym (append_assoc lines cut.0 cut.1),
+        cut.3 ∙ ap (λ (text : Bytes). text ++ cut.0) (speaks.said tells) ∙ append_assoc a.now.said lines cut.0,
+      );
+  counted = front.counted ∙ ap next_count (counted_whole status unfailed speaks);
+  silent = silent_after (speaks.whole unfailed) front.silent;
+})
+
+-- a run is closed as its command came to its end
+pub closes_after : {told : Type 0} {a b c : State} {lines : Bytes} (status result : Status) → Speaks told a b lines status → Closing told b c status result → Closes told a c lines status result
+closes_after {told} {a} {b} {c} {lines} status result speaks closing = ⊎_elim
+    (λ silent.
+    let out : Closes told a b lines outcome.OutFault outcome.OutFault = after_silence (subst (λ (s : Status). Speaks told a b lines s) silent.0 speaks) in
+    let left : Closes told a b lines status outcome.OutFault = subst (λ (s : Status). Closes told a b lines s outcome.OutFault) (sym silent.0) out in
+    let right : Closes told a b lines status result = subst (λ (s : Status). Closes told a b lines status s) (sym silent.1) left in
+    subst (λ (s : State). Closes told a s lines status result) (sym silent.2) right)
+    (λ said. after_lines status result said.0 speaks said.1)
+    closing.ends

@@ -1,0 +1,109 @@
+-- The record of a command, from the moment when it came to its end on to the return of the run.
+use Rattle.std.proofs.Common.{◌≡◌, ◌⊎◌, inl, inr, ⊎_elim, ℕ, ◌<◌, List, [], ◌++◌, Option, Some, None, refl, sym, ◌∙◌, ap, subst, append_assoc}
+use Rattle.nn_base.specs.Paths.{Bytes}
+use Rattle.nn_host.specs.Disk.{Disk, Reads}
+use Rattle.nn_host.specs.Moments.{Dir, Entry, State, IsLawful, disk_at}
+use Rattle.nn_host.specs.Runs.{Untouched, Throughout, EachDir}
+use Rattle.nn_host.proofs.RunsLemmas.{throughout_trans, throughout_weaker, untouched_trans}
+use Rattle.nn_marks.specs.declared.version.Version.{Version}
+use Rattle.nn_pick.specs.declared.refusal.Refusal.{Refusal}
+use Rattle.nn_pick.specs.Dirs.{EachChoice}
+use Rattle.nn_open.specs.Formatted.{IsFormatted, ReadsFormatted, OpensEmpty, OpenEmptySoundly}
+use Rattle.nn_open.specs.Answers.{AllFormatted, IsRefused, settled_disk}
+use Rattle.nn_server.specs.declared.state_run.StateEnd.{StateEnd}
+use Rattle.nn_server.specs.declared.format_run.FormatEnd.{FormatEnd}
+use Rattle.nn_server.specs.declared.format_run.FormatEnd.TheVariants.{Done, Refused, HostFault, Memory, OutFault}
+use Rattle.nn_server.specs.declared.status.Status.{Status}
+use Rattle.nn_server.specs.Came.{Counts, TouchesNoDir, CameTo}
+use Rattle.nn_server.specs.States.{StateRan, state_failed, state_status}
+use Rattle.nn_server.specs.Format.{FreshOrAsked, FormatDid, FormatRan, format_failed, format_status}
+use Rattle.nn_server.proofs.FormatLemmas.{asked_left}
+use Rattle.nn_top.specs.Did.{Ended}
+use Rattle.nn_top.specs.Closes.{GoesOn, Closing}
+use Rattle.nn_top.proofs.ClosesLemmas.{closes_after}
+
+counts_on : {told : Type 0} (a b c : State) (failed : Option ℕ) → Counts failed a b → TouchesNoDir told b c → Counts failed a c
+counts_on a b c None p q = record { faults = λ j. q.faults j ∙ p.faults j }
+counts_on a b c (Some i) p q = record { below = p.below; rose = q.faults i ∙ p.rose; others = λ j other. q.faults j ∙ p.others j other }
+
+state_on : {told : Type 0} {a b c : State} {lines : Bytes} (end : StateEnd) → StateRan told a b lines end → TouchesNoDir told b c → (told → GoesOn b c) → StateRan told a c lines end
+state_on {a = a} {b = b} {c = c} end ran dirs goes_on = record {
+  named = ran.named;
+  said = ran.said;
+  calls = λ tells.
+      let before = ran.calls tells in
+      let more = goes_on tells in (
+        before.0,
+        before.1 ++ more.0,
+        before.2,
+        more.1
+            ∙ ap (λ (l : List Entry). l ++ more.0) before.3
+            ∙ append_assoc a.trace (before.0 ++ before.1) more.0
+            ∙ ap (λ (l : List Entry). a.trace ++ l) (append_assoc before.0 before.1 more.0),
+      );
+  kept = untouched_trans ran.kept dirs.kept;
+  reads = λ tells j other. dirs.reads tells j ∙ ran.reads tells j other;
+  counted = counts_on a b c (state_failed end) ran.counted dirs;
+}
+
+-- ---- `format`
+
+-- what changes no directory keeps what the disk of each has
+each_disk_on : {told : Type 0} {a b c : State} (P : ℕ → Disk → Type 0) → Throughout told a b (EachDir (λ i d. P i d.disk)) → Untouched told b c → Throughout told a c (EachDir (λ i d. P i d.disk))
+each_disk_on P p q = throughout_trans p (throughout_weaker q (λ tells m same. record { at = λ j. subst (P j) (sym (same.disks j)) ((p.ends tells).at j) }))
+
+formatted_on : {told : Type 0} {a b c : State} (version : Version) → told → AllFormatted version a b → TouchesNoDir told b c → AllFormatted version a c
+formatted_on {a = a} {b = b} {c = c} version tells formatted dirs = record {
+  unrefused = formatted.unrefused;
+  reads = λ i below. subst (λ (r : Reads). ReadsFormatted version r) (sym (dirs.reads tells i)) (formatted.reads i below);
+  disks = λ i below. subst (λ (d : Disk). IsFormatted version d) (sym ((dirs.kept.ends tells).disks i)) (formatted.disks i below);
+  opens = λ i below. subst (λ (r : Reads). OpensEmpty r) (sym (dirs.reads tells i)) (formatted.opens i below);
+  choices = subst (λ (r : ℕ → Reads). EachChoice a.count r (λ some. 0 < some.count → OpenEmptySoundly some)) (sym all) formatted.choices;
+}
+  where
+    all : c.reads ≡ b.reads
+    all = λ k. λ (j : ℕ). dirs.reads tells j k
+
+refused_on : {told : Type 0} {a b c : State} (refusal : Refusal) → told → IsRefused refusal a b → TouchesNoDir told b c → IsRefused refusal a c
+refused_on refusal tells refused dirs = record {
+  first = refused.first;
+  reads = λ i. dirs.reads tells i ∙ refused.reads i;
+  settled = λ i below. (dirs.kept.ends tells).disks i ∙ refused.settled i below;
+}
+
+did_on : {told : Type 0} (a b c : State) (lines cluster : Bytes) (namespace : ℕ) (end : FormatEnd) → told → FormatDid cluster namespace a b lines end → TouchesNoDir told b c → FormatDid cluster namespace a c lines end
+did_on a b c lines cluster namespace Done tells did dirs = let as_asked = did.0 in ((as_asked.0, as_asked.1, formatted_on as_asked.0 tells as_asked.2 dirs), did.1)
+did_on a b c lines cluster namespace (Refused refusal) tells did dirs = (refused_on refusal tells did.0 dirs, did.1)
+did_on a b c lines cluster namespace (HostFault i) tells did dirs = did
+did_on a b c lines cluster namespace Memory tells did dirs = did
+did_on a b c lines cluster namespace OutFault tells did dirs = let as_asked = did.0 in ((as_asked.0, as_asked.1, formatted_on as_asked.0 tells as_asked.2 dirs), did.1)
+
+format_on : {told : Type 0} {a b c : State} {lines : Bytes} (cluster : Bytes) (namespace : ℕ) (end : FormatEnd) → (told → IsLawful a) → FormatRan told cluster namespace a b lines end → TouchesNoDir told b c
+    → FormatRan told cluster namespace a c lines end
+format_on {a = a} {b = b} {c = c} {lines = lines} cluster namespace end lawful ran dirs = record {
+  did = λ tells. did_on a b c lines cluster namespace end tells (ran.did tells) dirs;
+  each_moment = λ tells fresh. each_disk_on (λ (j : ℕ) (d : Disk). j < a.count → FreshOrAsked cluster namespace d) (ran.each_moment tells fresh) dirs.kept;
+  any_stop = λ tells fresh. asked_left tells (lawful tells) fresh (each_disk_on (λ (j : ℕ) (d : Disk). j < a.count → FreshOrAsked cluster namespace d) (ran.each_moment tells fresh) dirs.kept);
+  as_before = λ some. each_disk_on (λ (j : ℕ) (d : Disk). (d ≡ disk_at a j) ⊎ (d ≡ settled_disk a j)) (ran.as_before some) dirs.kept;
+  counted = counts_on a b c (format_failed end) ran.counted dirs;
+}
+
+-- ---- from the command's end to the return
+
+pub state_ended : {told : Type 0} {a b c : State} (end : StateEnd) (result : Status) → CameTo told a b state_status (StateRan told a b) end → Closing told b c (state_status end) result
+    → Ended told a c state_status (StateRan told a c) result
+state_ended end result came closing = record {
+  end = end;
+  lines = came.lines;
+  ran = state_on end came.ran closing.dirs closing.calls;
+  closes = closes_after (state_status end) result came.speaks closing;
+}
+
+pub format_ended : {told : Type 0} {a b c : State} (cluster : Bytes) (namespace : ℕ) (end : FormatEnd) (result : Status) → (told → IsLawful a)
+    → CameTo told a b format_status (FormatRan told cluster namespace a b) end → Closing told b c (format_status end) result → Ended told a c format_status (FormatRan told cluster namespace a c) result
+format_ended cluster namespace end result lawful came closing = record {
+  end = end;
+  lines = came.lines;
+  ran = format_on cluster namespace end lawful came.ran closing.dirs;
+  closes = closes_after (format_status end) result came.speaks closing;
+}

@@ -1,0 +1,8 @@
+pub mod WordsLemmas
+pub mod OptionsLemmas
+pub mod FormatWordsLemmas
+pub mod LineLemmas
+pub mod ClosesLemmas
+pub mod DidLemmas
+pub mod DryLemmas
+pub mod UsageLemmas

@@ -1,0 +1,9 @@
+use Rattle.std.proofs.Common.{sym, subst}
+use Rattle.nn_server.specs.declared.status.Status.{Status}
+use Rattle.nn_top.specs.Closes.{Closing}
+use Rattle.nn_top.proofs.DryLemmas.{dry_ended}
+use Rattle.nn_top.proofs.run.run_dry.Goals as goal
+
+pub returns : goal.returns
+returns g c = dry_ended c.dry-end.result c.close.result c.dry-end.ensures
+    (subst (λ (s : Status). Closing g.H.Host.told (g.H.Host.state c.dry-end.new.host) (g.H.Host.state c.close.new.host) s c.close.result) c.status.ensures c.close.ensures)

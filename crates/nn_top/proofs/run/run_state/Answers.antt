@@ -1,0 +1,9 @@
+use Rattle.std.proofs.Common.{sym, subst}
+use Rattle.nn_server.specs.declared.status.Status.{Status}
+use Rattle.nn_top.specs.Closes.{Closing}
+use Rattle.nn_top.proofs.DidLemmas.{state_ended}
+use Rattle.nn_top.proofs.run.run_state.Goals as goal
+
+pub returns : goal.returns
+returns g c = state_ended c.state-end.result c.close.result c.state-end.ensures
+    (subst (λ (s : Status). Closing g.H.Host.told (g.H.Host.state c.state-end.new.host) (g.H.Host.state c.close.new.host) s c.close.result) c.status.ensures c.close.ensures)

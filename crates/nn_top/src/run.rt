@@ -1,0 +1,128 @@
+// A whole run of the program, but for the real folders, the real input and the real output.
+ghost use Rattle.std.specs.Prelude.{◌≡◌, ◌≤◌, false, true, IfOk, IsTrue, length};
+ghost use Rattle.std.specs.String.{string_bytes};
+ghost use Rattle.nn_base.specs.Words.{is_word};
+ghost use Rattle.nn_host.specs.Calls.{most_said};
+ghost use Rattle.nn_server.specs.Came.{is_out_fault};
+ghost use Rattle.nn_server.specs.States.{StateRan, state_status};
+ghost use Rattle.nn_server.specs.Format.{FormatRan, format_status};
+ghost use Rattle.nn_server.specs.Codes.{dry_status};
+ghost use Rattle.nn_top.specs.Words.{texts};
+ghost use Rattle.nn_top.specs.Wanted.{dirs_in};
+ghost use Rattle.nn_top.specs.Commands.{Asks, HaveNoReading};
+ghost use Rattle.nn_top.specs.Lines.{last_line};
+ghost use Rattle.nn_top.specs.Did.{Ended, DryDid, Unread, Did};
+ghost use Rattle.nn_top.specs.Closes.{is_made, IsLast, Closing};
+
+use crate::words::{Command, command_of};
+use nn_base::{DirNo, NoMemory, Word};
+use nn_host::{Failed, Host, MOST_SAID, Source};
+use nn_server::{Status, dry, format, state};
+use std::alloc::Global;
+
+/// Does what the words of the command line ask for, and says its answers. The script of `dry` comes from the source.
+///
+/// Where the words have a reading, the host has as many directories as that reading, in its order.
+pub fn namenode<H: Host, S: Source>(
+    alloc: Global,
+    words: &[String],
+    source: &mut S,
+    host: &mut H,
+) -> Status
+    requires { (wanted : _) → Asks (texts words.now) wanted → (H.state host.old).count ≡ length (dirs_in wanted) }
+    ensures usage_only { result ≡ Status.Usage → HaveNoReading (texts words.now) }
+    ensures usage { HaveNoReading (texts words.now) → (source.new ≡ source.old) × Unread H.told (H.state host.old) (H.state host.new) result }
+    ensures did { (wanted : _) → Asks (texts words.now) wanted → (
+        Did H.told S.told S.left S.faults wanted source.old source.new (H.state host.old) (H.state host.new) result) }
+{
+    let Some(command) = command_of(words) else {
+        return close(alloc, host, Status::Usage);
+    };
+    match &command {
+        Command::State { .. } => run_state(alloc, host),
+        Command::Format {
+            cluster,
+            namespace,
+            ..
+        } => run_format(alloc, host, cluster, *namespace),
+        Command::Dry => run_dry(alloc, host, source),
+    }
+}
+
+fn run_state<H: Host>(alloc: Global, host: &mut H) -> Status
+    ensures { Ended H.told (H.state host.old) (H.state host.new) state_status
+        (StateRan H.told (H.state host.old) (H.state host.new)) result }
+{
+    let end = state(alloc, host);
+    close(alloc, host, end.status())
+}
+
+fn run_format<H: Host>(alloc: Global, host: &mut H, cluster: &Word, namespace: u32) -> Status
+    requires word { IsTrue (is_word cluster.now) }
+    requires some { 1 ≤ namespace }
+    requires fits { namespace ≤ 2147483647 }
+    ensures { Ended H.told (H.state host.old) (H.state host.new) format_status
+        (FormatRan H.told cluster.now namespace (H.state host.old) (H.state host.new)) result }
+{
+    let end = format(alloc, host, cluster, namespace);
+    close(alloc, host, end.status())
+}
+
+fn run_dry<H: Host, S: Source>(alloc: Global, host: &mut H, source: &mut S) -> Status
+    ensures { Ended H.told (H.state host.old) (H.state host.new) dry_status
+        (DryDid H.told S.told (S.left source.old) (S.left source.new) (S.faults source.old) (S.faults source.new)
+        (H.state host.old) (H.state host.new)) result }
+{
+    let end = dry(alloc, host, source);
+    close(alloc, host, end.status())
+}
+
+// Says the last line of a status. Where that finds no memory, the run ends for want of memory.
+fn close<H: Host>(alloc: Global, host: &mut H, status: Status) -> Status
+    ensures { Closing H.told (H.state host.old) (H.state host.new) status result }
+{
+    match status {
+        Status::Ok => Status::Ok,
+        Status::OutFault => Status::OutFault,
+        Status::Usage => say_last(host, b"usage\n", Status::Usage),
+        Status::SourceFault => say_last(host, b"source fault\n", Status::SourceFault),
+        Status::ScriptTooLong => say_last(host, b"script too long\n", Status::ScriptTooLong),
+        Status::Memory => say_last(host, b"no memory\n", Status::Memory),
+        Status::Refused(refusal) => {
+            let line = refusal.text(alloc);
+            say_made(host, line, Status::Refused(refusal))
+        }
+        Status::HostFault(i) => say_made(host, fault_line(alloc, i), Status::HostFault(i)),
+    }
+}
+
+fn fault_line(alloc: Global, i: DirNo) -> Result<String, NoMemory>
+    ensures { IfOk result (λ line. string_bytes line ≡ last_line (Status.HostFault i)) }
+{
+    Ok(format!(in alloc; "fault {}\n", i.0)?)
+}
+
+fn say_made<H: Host>(host: &mut H, line: Result<String, NoMemory>, status: Status) -> Status
+    requires line { IfOk line (λ made. string_bytes made ≡ last_line status) }
+    requires made { is_made status ≡ true }
+    requires unfailed { is_out_fault status ≡ false }
+    ensures { Closing H.told (H.state host.old) (H.state host.new) status result }
+{
+    match line {
+        Ok(line) if line.len() <= MOST_SAID => say_last(host, line.as_bytes(), status),
+        // One that can't be said at once counts as one that can't be made. No line is that long.
+        _ => say_last(host, b"no memory\n", Status::Memory),
+    }
+}
+
+fn say_last<H: Host>(host: &mut H, line: &[u8], last: Status) -> Status
+    requires line { line.now ≡ last_line last }
+    requires short { length line.now ≤ most_said }
+    requires unfailed { is_out_fault last ≡ false }
+    ensures { (status : _) → IsLast status last → is_out_fault status ≡ false → Closing H.told (H.state host.old) (H.state host.new) status result }
+{
+    match host.say(line) {
+        Ok(()) => last,
+        Err(Failed) => Status::OutFault,
+    }
+}

@@ -1,0 +1,39 @@
+// Options at the head of words.
+ghost use Rattle.std.specs.Prelude.{◌≡◌, List, [], ◌∷◌, ◌++◌, IsTrue, MatchOption};
+ghost use Rattle.nn_top.specs.Words.{Word as W, texts};
+ghost use Rattle.nn_top.specs.Options.{can_stand_apart as stands_apart};
+ghost use Rattle.nn_top.specs.FormatWords.{BeginWith};
+
+/// The value with which the words give this option first of all, and the words behind it.
+pub fn option_at<'a>(words: &'a [String], option: &[u8]) -> Option<(&'a [u8], &'a [String])>
+    ensures { MatchOption result ((value : W) (rest : List W) → BeginWith (texts words.now) option.now value rest → ⊥) (λ found. BeginWith (texts words.now) option.now found.0.now (texts found.1.now)) }
+{
+    let (first, later) = words.split_first()?;
+    let ending = first.as_bytes().strip_prefix(option)?;
+    if ending.is_empty() {
+        return value_apart(later);
+    }
+    let value = ending.strip_prefix(b"=")?;
+    Some((value, later))
+}
+
+// The first word as the value of the option before it, and the words behind it.
+fn value_apart(words: &[String]) -> Option<(&[u8], &[String])>
+    ensures { MatchOption result ((value : W) (rest : List W) → texts words.now ≡ value ∷ rest → IsTrue (stands_apart value) → ⊥) (λ found. (texts words.now ≡ found.0.now ∷ texts found.1.now) × IsTrue (stands_apart found.0.now)) }
+{
+    let (value, later) = words.split_first()?;
+    if can_stand_apart(value.as_bytes()) {
+        Some((value.as_bytes(), later))
+    } else {
+        None
+    }
+}
+
+fn can_stand_apart(value: &[u8]) -> bool
+    ensures { result ≡ stands_apart value.now }
+{
+    match value {
+        [] => true,
+        [first, ..] => *first != b'-',
+    }
+}

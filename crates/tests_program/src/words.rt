@@ -1,0 +1,135 @@
+// How the words of a command line are read.
+use nn_top::{Command, WordsFault, command_of, dirs_of};
+use std::alloc::{AllocError, Global};
+use std::test::Fail;
+
+// Words with one space between them, and their directories where they have a reading.
+const STATE: [(&str, Option<&str>); 14] = [
+    ("", None),
+    ("fly A", None),
+    ("state", None),
+    ("state --", None),
+    ("state ", None),
+    ("state A A", None),
+    ("state -x A", None),
+    ("state A -- B", None),
+    ("state a b c d e f g h i", None),
+    ("state a b c d e f g h", Some("a b c d e f g h")),
+    ("state B A", Some("B A")),
+    ("state A --", Some("A")),
+    ("state - A", Some("- A")),
+    ("state -- -x --", Some("-x --")),
+];
+
+// The same of `format`.
+const FORMAT: [(&str, Option<&str>); 26] = [
+    ("format --cluster=c1 --namespace 7 A", Some("A")),
+    ("format B A --namespace=007 --cluster c1 --", Some("B A")),
+    (
+        "format --cluster c1 B A --namespace 2147483647",
+        Some("B A"),
+    ),
+    ("format --cluster=-x --namespace 7 -- -x --", Some("-x --")),
+    ("format --cluster c1 A", None),
+    ("format --namespace 7 A", None),
+    ("format --cluster c1 --namespace 0 A", None),
+    ("format --cluster c1 --namespace 2147483648 A", None),
+    (
+        "format --cluster c1 --namespace 00000000000000000007 A",
+        None,
+    ),
+    ("format --cluster c1 --namespace 7x A", None),
+    ("format --cluster c1 --namespace= A", None),
+    ("format --cluster - --namespace 7 A", None),
+    ("format --cluster  --namespace 7 A", None),
+    ("format --cluster= --namespace 7 A", None),
+    ("format --cluster=c\x1f --namespace 7 A", None),
+    ("format --cluster=c\x7f --namespace 7 A", None),
+    ("format --cluster=! --namespace 7 A", Some("A")),
+    ("format --cluster=c1 --namespace=-7 A", None),
+    ("format --cluster --namespace 7 A", None),
+    ("format --cluster c1 --cluster=c1 --namespace 7 A", None),
+    ("format --cluster c1 --namespace 7 A --namespace 7", None),
+    ("format --cluster c1 A --namespace 7 B", None),
+    ("format --cluster c1 --namespace 7 --at 5 A", None),
+    ("format --cluster c1 --namespace 7", None),
+    ("format --cluster c1 --namespace 7 a b c d e f g h i", None),
+    ("state --cluster c1 --namespace 7 A", None),
+];
+
+fn split(alloc: Global, line: &str) -> Result<Vec<String>, AllocError> {
+    let mut words = Vec::new(alloc);
+    for word in line.split(' ') {
+        words.push(String::from_str(alloc, word)?)?;
+    }
+    Ok(words)
+}
+
+#[test]
+fn a_cluster_has_one_to_255_bytes(rt: HostRuntime) -> Result<(), Fail> {
+    for (len, is_read) in [(0, false), (1, true), (255, true), (256, false)] {
+        let mut line = String::from_str(rt.alloc(), "format --namespace 7 A --cluster=")?;
+        for _ in 0..len {
+            line.push_str("c")?;
+        }
+        let words = split(rt.alloc(), line.as_str())?;
+        assert!(rt; command_of(&words).is_some() == is_read, "{len}");
+    }
+    Ok(())
+}
+
+#[test]
+fn words_give_their_directories_or_usage(rt: HostRuntime) -> Result<(), Fail> {
+    for (line, dirs) in STATE.iter().chain(&FORMAT) {
+        let found = dirs_of(rt.alloc(), &split(rt.alloc(), line)?);
+        match dirs {
+            Some(dirs) => assert_eq!(rt; found?, split(rt.alloc(), dirs)?, "{line}"),
+            None => assert_eq!(rt; found.err(), Some(WordsFault::Usage), "{line}"),
+        }
+    }
+    assert_eq!(rt; dirs_of(rt.alloc(), &[]).err(), Some(WordsFault::Usage));
+    Ok(())
+}
+
+#[test]
+fn dry_takes_no_directories_and_no_options(rt: HostRuntime) -> Result<(), Fail> {
+    let lines = [
+        ("dry", true),
+        ("dry --", true),
+        ("dry ", false),
+        ("dry A", false),
+        ("dry -", false),
+        ("dry --x", false),
+        ("dry -- A", false),
+        ("dry -- --", false),
+        ("-- dry", false),
+    ];
+    for (line, is_read) in lines {
+        match dirs_of(rt.alloc(), &split(rt.alloc(), line)?) {
+            Ok(dirs) => assert!(rt; is_read && dirs.is_empty(), "{line}"),
+            Err(_) => assert!(rt; !is_read, "{line}"),
+        }
+    }
+    Ok(())
+}
+
+fn is_read(command: Option<&Command<'_>>, id: &[u8], number: u32) -> bool {
+    match command {
+        Some(
+            Command::Format {
+                cluster,
+                namespace,
+                ..
+            },
+        ) => cluster.bytes() == id && *namespace == number,
+        _ => false,
+    }
+}
+
+#[test]
+fn format_is_read_with_its_cluster_and_namespace(rt: HostRuntime) -> Result<(), Fail> {
+    let words = split(rt.alloc(), "format --cluster=c1 --namespace 7 A")?;
+    let command = command_of(&words);
+    assert!(rt; is_read(command.as_ref(), b"c1", 7));
+    Ok(())
+}
