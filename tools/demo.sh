@@ -2,7 +2,10 @@
 # Runs the program, PROGRAM, over folders of its own in a temporary place, and says before each step what it shows.
 # Usage: demo.sh PROGRAM
 set -eu
-program=$1
+case $1 in
+    /*) program=$1 ;;
+    *) program=$PWD/$1 ;;
+esac
 place=$(mktemp -d)
 trap 'rm -rf "$place"' EXIT
 cp "$(dirname "$0")/quick.script" "$(dirname "$0")/beside.awk" "$place"
