@@ -14,4 +14,4 @@ if ! (cd crates/nn_cli && rt try -- dry) < tools/quick.script > "$place/answers"
     exit 1
 fi
 awk -v answers="$place/answers" -f tools/beside.awk tools/quick.script
-printf '\nNothing was proved; `make test` does that.\n'
+printf '\nNothing was proved: `make demo` proves the program, `make test` everything.\n'
