@@ -1,5 +1,5 @@
 // A whole run of the program, but for the real folders, the real input and the real output.
-ghost use Rattle.std.specs.Prelude.{◌≡◌, ◌≤◌, false, true, IfOk, IsTrue, length};
+ghost use Rattle.std.specs.Prelude.{◌≡◌, ◌⊎◌, ◌≤◌, false, true, IfOk, IsTrue, length};
 ghost use Rattle.std.specs.String.{string_bytes};
 ghost use Rattle.nn_base.specs.Words.{is_word};
 ghost use Rattle.nn_host.specs.Calls.{most_said};
@@ -30,6 +30,7 @@ pub fn namenode<H: Host, S: Source>(
     host: &mut H,
 ) -> Status
     requires { (wanted : _) → Asks (texts words.now) wanted → (H.state host.old).count ≡ length (dirs_in wanted) }
+    ensures reading { HaveNoReading (texts words.now) ⊎ ((wanted : _) × Asks (texts words.now) wanted) }
     ensures usage_only { result ≡ Status.Usage → HaveNoReading (texts words.now) }
     ensures usage { HaveNoReading (texts words.now) → (source.new ≡ source.old) × Unread H.told (H.state host.old) (H.state host.new) result }
     ensures did { (wanted : _) → Asks (texts words.now) wanted → (
