@@ -3,6 +3,7 @@ use Rattle.std.proofs.Common.{◌≡◌, ◌≢◌, ℕ, ◌<◌, ◌≤◌, tru
 use Rattle.std.specs.Prelude.{IfOk, MatchResult}
 use Rattle.std.specs.Option.{SomeIff, ok_or}
 use Rattle.std.proofs.lemmas.Bool.{eq-eqb, ne_eqb, cases_lt}
+use Rattle.nn_base.specs.Limits.{most_levels, most_path}
 use Rattle.nn_base.specs.declared.path.fault.PathFault.{PathFault}
 use Rattle.nn_base.specs.declared.path.fault.PathFault.TheVariants.{Empty, Relative, LongPath, BadName, LongName, Deep, Memory}
 use Rattle.nn_base.specs.Paths.{Names, Bytes, IsPath, text_of}
@@ -23,21 +24,21 @@ relative_text text first rest is h =
     let some = some_bytes first rest in
     rw (is, some, e) refl
 
-pub long_text : (text : Bytes) (first : ℕ) (rest : Bytes) → text ≡ first ∷ rest → first ≡ 47 → 8000 < length text → fault_of text ≡ Some LongPath
+pub long_text : (text : Bytes) (first : ℕ) (rest : Bytes) → text ≡ first ∷ rest → first ≡ 47 → most_path < length text → fault_of text ≡ Some LongPath
 unfolding fault_of
 long_text text first rest is h long =
     let e : (first == 47) ≡ true = eq-eqb first 47 h in
-    let l : nat_lt 8000 (length (first ∷ rest)) ≡ true = lt-ltb _ _ (subst (λ (t : Bytes). 8000 < length t) is long) in
+    let l : nat_lt most_path (length (first ∷ rest)) ≡ true = lt-ltb _ _ (subst (λ (t : Bytes). most_path < length t) is long) in
     let some = some_bytes first rest in
     rw (is, some, e, l) refl
 
-pub fair_text : (text : Bytes) (first : ℕ) (rest : Bytes) → text ≡ first ∷ rest → first ≡ 47 → length text ≤ 8000 → IsFair text
+pub fair_text : (text : Bytes) (first : ℕ) (rest : Bytes) → text ≡ first ∷ rest → first ≡ 47 → length text ≤ most_path → IsFair text
 fair_text text first rest is h size = record { absolute = ap is_absolute is ∙ eq-eqb first 47 h; size = size }
 
 pub part_told : (text : Bytes) (first : ℕ) (rest : Bytes) (fault : PathFault) → text ≡ first ∷ rest → IsFair text → fault_among (parts rest) ≡ Some fault → fault_of text ≡ Some fault
 part_told text first rest fault is fair h =
     let e : fault_among (parts_of text) ≡ Some fault = ap (λ t. fault_among (parts_of t)) is ∙ h in
-    fault_of_fair text fair ∙ ap (λ f. first_of (f ∷ when (nat_lt 1000 (length (parts_of text))) Deep ∷ [])) e
+    fault_of_fair text fair ∙ ap (λ f. first_of (f ∷ when (nat_lt most_levels (length (parts_of text))) Deep ∷ [])) e
 
 memory_alone : (fault : PathFault) → (fault ≢ Memory → ⊥) → fault ≡ Memory
 memory_alone Empty h = absurd (h (λ e. cc))
@@ -64,9 +65,9 @@ told text fault h = record {
 }
 
 deep_text : (text : Bytes) → IsFair text → fault_among (parts_of text) ≡ None → (IsPath (parts_of text) → ⊥) → fault_of text ≡ Some Deep
-deep_text text fair among none = elim (cases_lt 1000 (length (parts_of text))) [
+deep_text text fair among none = elim (cases_lt most_levels (length (parts_of text))) [
   | inl deep ↦
-      let e : nat_lt 1000 (length (parts_of text)) ≡ true = lt-ltb _ _ deep in
+      let e : nat_lt most_levels (length (parts_of text)) ≡ true = lt-ltb _ _ deep in
       fault_of_fair text fair ∙ (λ i. first_of (among i ∷ when (e i) Deep ∷ []))
   | inr levels ↦ absurd (none (fair_is_path text fair among levels))
 ]

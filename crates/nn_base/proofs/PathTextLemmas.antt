@@ -5,6 +5,7 @@ use Rattle.std.specs.List.{slice_split, onto_first}
 use Rattle.std.proofs.lemmas.Bool.{cases_Bool, or_parts, or_from, not-true, not-false, eqb-true, ne_eqb}
 use Rattle.std.proofs.lemmas.List.{take_more}
 use Rattle.std.proofs.lemmas.List.Elements.{All-nil, All-cons, All-head, All-tail}
+use Rattle.nn_base.specs.Limits.{most_levels, most_path}
 use Rattle.nn_base.specs.declared.path.fault.PathFault.{PathFault}
 use Rattle.nn_base.specs.declared.path.fault.PathFault.TheVariants.{Empty, Relative, LongPath, BadName, LongName, Deep}
 use Rattle.nn_base.specs.Paths.{Names, Bytes, IsPath, is_name, is_bad_name, is_long_name, has_slash, joined, text_of}
@@ -164,7 +165,7 @@ no_fault_more names k x within is h f =
 -- a text that begins with `/` and isn't too long, whose fault is one of its parts or their count
 pub record IsFair (text : Bytes) : Type 0 where
   pub absolute : is_absolute text ≡ true
-  pub size : length text ≤ 8000
+  pub size : length text ≤ most_path
 
 -- that it has bytes
 pub some_bytes : (b : ℕ) (text : Bytes) → (length (b ∷ text) == 0) ≡ false
@@ -174,7 +175,7 @@ some_byte : (text : Bytes) → is_absolute text ≡ true → (length text == 0) 
 some_byte [] h = cc
 some_byte (b ∷ text) h = some_bytes b text
 
-pub fault_of_fair : (text : Bytes) → IsFair text → fault_of text ≡ first_of (fault_among (parts_of text) ∷ when (nat_lt 1000 (length (parts_of text))) Deep ∷ [])
+pub fault_of_fair : (text : Bytes) → IsFair text → fault_of text ≡ first_of (fault_among (parts_of text) ∷ when (nat_lt most_levels (length (parts_of text))) Deep ∷ [])
 unfolding fault_of
 fault_of_fair text fair =
     first_behind _ _ (unsaid _ Empty (some_byte text fair.absolute))
@@ -186,15 +187,15 @@ unfolding fault_of
 fair_from_no_fault text h =
     let a = none_first (when (length text == 0) Empty) _ h in
     let b = none_first (when (not (is_absolute text)) Relative) _ a.1 in
-    let c = none_first (when (nat_lt 8000 (length text)) LongPath) _ b.1 in
+    let c = none_first (when (nat_lt most_path (length text)) LongPath) _ b.1 in
     record { absolute = not-false _ (untrue _ Relative b.0); size = ltb-false _ _ (untrue _ LongPath c.0) }
 
-pub no_fault_of_fair : (text : Bytes) → IsFair text → fault_among (parts_of text) ≡ None → length (parts_of text) ≤ 1000 → fault_of text ≡ None
+pub no_fault_of_fair : (text : Bytes) → IsFair text → fault_among (parts_of text) ≡ None → length (parts_of text) ≤ most_levels → fault_of text ≡ None
 no_fault_of_fair text fair among levels =
     fault_of_fair text fair ∙ first_behind _ _ among ∙ first_behind _ _ (unsaid _ Deep (le-ltb _ _ levels))
 
 -- the parts of a text without a fault are a path, whose text it is
-pub fair_is_path : (text : Bytes) → IsFair text → fault_among (parts_of text) ≡ None → length (parts_of text) ≤ 1000 → IsPath (parts_of text)
+pub fair_is_path : (text : Bytes) → IsFair text → fault_among (parts_of text) ≡ None → length (parts_of text) ≤ most_levels → IsPath (parts_of text)
 fair_is_path text fair among levels = record {
   named = whole_are_names (parts_of text) (parts_are_whole (drop 1 text)) among;
   levels = levels;
@@ -205,7 +206,7 @@ pub path_from_no_fault : (text : Bytes) → fault_of text ≡ None → IsPath (p
 path_from_no_fault text h =
     let fair = fair_from_no_fault text h in
     let a = none_first (fault_among (parts_of text)) _ (sym (fault_of_fair text fair) ∙ h) in
-    let b = none_first (when (nat_lt 1000 (length (parts_of text))) Deep) _ a.1 in
+    let b = none_first (when (nat_lt most_levels (length (parts_of text))) Deep) _ a.1 in
     (fair_is_path text fair a.0 (ltb-false _ _ (untrue _ Deep b.0)), text_of-parts_of text fair.absolute)
 
 -- the text of a path has no fault
@@ -219,7 +220,7 @@ fault_of-text_of path h =
     absolute [] = refl
     absolute (x ∷ path) = refl
 
-    size : (path : Names) → length (joined path) ≤ 8000 → length (text_of path) ≤ 8000
+    size : (path : Names) → length (joined path) ≤ most_path → length (text_of path) ≤ most_path
     size [] h = omega arith
     size (x ∷ path) h = h
 

@@ -4,6 +4,7 @@ use Rattle.std.specs.Prelude.{All}
 use Rattle.std.proofs.lemmas.Bool.Decides.{nat_tests}
 use Rattle.std.proofs.lemmas.List.Elements.{All-take, All-push}
 use Rattle.std.proofs.lemmas.List.{take_more, take_all}
+use Rattle.nn_base.specs.Limits.{most_name}
 use Rattle.nn_base.specs.Paths.{Names, Bytes, IsPath, is_name, is_bad_name, has_slash, joined}
 
 -- the text of more names is longer
@@ -32,10 +33,10 @@ joined_push (y ∷ names) x =
     omega (arith, joined_push names x, length-append y (joined (names ++ x ∷ [])), length-append y (joined names))
 
 -- a name has at most 255 bytes
-pub name_is_short : (x : Bytes) → is_name x ≡ true → length x ≤ 255
-name_is_short x h = by (is_bad_name x) (nat_lt 255 (length x)) (has_slash x) refl h
+pub name_is_short : (x : Bytes) → is_name x ≡ true → length x ≤ most_name
+name_is_short x h = by (is_bad_name x) (nat_lt most_name (length x)) (has_slash x) refl h
   where
-    by : (bad long slash : Bool) → nat_lt 255 (length x) ≡ long → not (bad || long || slash) ≡ true → length x ≤ 255
+    by : (bad long slash : Bool) → nat_lt most_name (length x) ≡ long → not (bad || long || slash) ≡ true → length x ≤ most_name
     by true long slash is h = cc
     by false true slash is h = cc
     by false false slash is h = grind (arith, nat_tests)

@@ -14,6 +14,10 @@ most_dirs = 8
 abbrev pub most_name : ℕ
 most_name = 255
 
+-- a word of a VERSION: the id of a cluster or of a block pool
+abbrev pub most_word : ℕ
+most_word = 255
+
 abbrev pub most_levels : ℕ
 most_levels = 1000
 
@@ -23,6 +27,10 @@ most_path = 8000
 -- an owner or a group
 abbrev pub most_label : ℕ
 most_label = 32
+
+-- nine bits of permissions and the sticky bit: 1777 in octal
+abbrev pub most_mode : ℕ
+most_mode = 1023
 
 -- ---- the namespace
 
@@ -53,6 +61,10 @@ most_record = 65536
 -- of a segment as it is written
 abbrev pub most_segment : ℕ
 most_segment = 2 ^ 26
+
+-- of a segment as it is read
+abbrev pub most_segment_read : ℕ
+most_segment_read = 2 ^ 30
 
 abbrev pub most_version : ℕ
 most_version = 65536

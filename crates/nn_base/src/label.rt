@@ -10,7 +10,7 @@ use std::marker::Model;
 /// The name of an owner or of a group, 1 to 32 bytes. It keeps them in place, as a node has two and copies them often.
 #[derive(Clone, Copy, PartialEq, Eq)]
 pub struct Label {
-    buf: [u8; 32],
+    buf: [u8; MOST_LABEL],
     len: usize,
 }
 
@@ -18,6 +18,7 @@ impl Model for Label {
     ghost use Rattle.std.specs.Prelude.{List, ℕ, take, length};
     ghost use Rattle.nn_base.specs.Labels.{HoldsLabel};
     ghost use Rattle.nn_base.specs.Padded.{padded, length-text, padded-text};
+    ghost use Rattle.nn_base.specs.Limits.{most_label};
 
     ghost Value = { List ℕ };
 
@@ -25,9 +26,9 @@ impl Model for Label {
 
     ghost invariant = { λ a. HoldsLabel a.buf a.len };
 
-    ghost inverse = { λ v. record { buf = padded 32 v; len = length v } };
+    ghost inverse = { λ v. record { buf = padded most_label v; len = length v } };
 
-    ghost inverse_ok = { λ a h i. record { buf = padded-text 32 a.buf a.len h.padded i; len = length-text 32 a.buf a.len h.padded i } };
+    ghost inverse_ok = { λ a h i. record { buf = padded-text most_label a.buf a.len h.padded i; len = length-text most_label a.buf a.len h.padded i } };
 }
 
 impl Label {
@@ -38,7 +39,7 @@ impl Label {
         if bytes.is_empty() || MOST_LABEL < bytes.len() {
             return None;
         }
-        let mut buf = [0; 32];
+        let mut buf = [0; MOST_LABEL];
         for (i, b) in bytes.iter().enumerate() {
             buf[i] = *b;
         }

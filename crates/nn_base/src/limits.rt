@@ -4,10 +4,13 @@
 pub const LAYOUT: i32 = -1001;
 
 /// How many name directories there may be.
-pub const MOST_DIRS: u8 = 8;
+pub const MOST_DIRS: usize = 8;
 
 /// The longest name of a node, in bytes (HDFS's `dfs.namenode.fs-limits.max-component-length`).
 pub const MOST_NAME: usize = 255;
+
+/// The longest word of a VERSION, in bytes: the id of a cluster or of a block pool.
+pub const MOST_WORD: usize = 255;
 
 /// How many levels a path may have below the root (HDFS's `MAX_PATH_DEPTH`).
 pub const MOST_LEVELS: usize = 1_000;
@@ -17,6 +20,9 @@ pub const MOST_PATH: usize = 8_000;
 
 /// The longest name of an owner or a group, in bytes.
 pub const MOST_LABEL: usize = 32;
+
+/// The greatest permission bits: nine of them and the sticky bit (HDFS's `FsPermission`).
+pub const MOST_MODE: u16 = 0o1777;
 
 /// How many nodes a namespace may have, the root included.
 pub const MOST_NODES: u64 = 1_048_576;
@@ -38,6 +44,9 @@ pub const MOST_RECORD: usize = 65_536;
 
 /// The longest segment of the edit log that is written, in bytes.
 pub const MOST_SEGMENT: usize = 1 << 26;
+
+/// The longest segment of the edit log that is read, in bytes: a start takes longer ones than it writes.
+pub const MOST_SEGMENT_READ: usize = 1 << 30;
 
 /// The longest VERSION that is read, in bytes.
 pub const MOST_VERSION: usize = 65_536;

@@ -5,15 +5,13 @@ ghost use Rattle.std.specs.Cmp.Lexicographic.{pointwise, nat_list_eq_equiv};
 ghost use Rattle.std.specs.Cmp.{partial_equiv_from_equiv};
 ghost use Rattle.nn_base.specs.Words.{is_word, is_word_byte};
 
+use crate::limits::MOST_WORD;
 use std::marker::Model;
-
-/// The longest word, in bytes.
-pub const MAX_WORD: usize = 255;
 
 /// A word of a VERSION file, as a cluster's or a block pool's id: 1 to 255 bytes of 0x21 to 0x7E, held in place.
 #[derive(Clone, Copy, Debug)]
 pub struct Word {
-    buffer: [u8; 255],
+    buffer: [u8; MOST_WORD],
     len: u8,
 }
 
@@ -21,16 +19,17 @@ impl Model for Word {
     ghost use Rattle.std.specs.Prelude.{List, ℕ, take, length, IsTrue};
     ghost use Rattle.nn_base.specs.Words.{is_word};
     ghost use Rattle.nn_base.specs.Padded.{IsPadded, padded, length-text, padded-text};
+    ghost use Rattle.nn_base.specs.Limits.{most_word};
 
     ghost Value = { List ℕ };
 
     ghost view = { λ word. take word.len word.buffer };
 
-    ghost invariant = { λ word. IsPadded 255 word.buffer word.len × IsTrue (is_word (take word.len word.buffer)) };
+    ghost invariant = { λ word. IsPadded most_word word.buffer word.len × IsTrue (is_word (take word.len word.buffer)) };
 
-    ghost inverse = { λ bytes. record { buffer = padded 255 bytes; len = length bytes } };
+    ghost inverse = { λ bytes. record { buffer = padded most_word bytes; len = length bytes } };
 
-    ghost inverse_ok = { λ word h i. record { buffer = padded-text 255 word.buffer word.len h.0 i; len = length-text 255 word.buffer word.len h.0 i } };
+    ghost inverse_ok = { λ word h i. record { buffer = padded-text most_word word.buffer word.len h.0 i; len = length-text most_word word.buffer word.len h.0 i } };
 }
 
 impl Word {
@@ -41,7 +40,7 @@ impl Word {
         if !is_word(bytes) {
             return None;
         }
-        let mut buffer = [0; 255];
+        let mut buffer = [0; MOST_WORD];
         buffer[..bytes.len()].copy_from_slice(bytes);
         Some(Word {
             buffer,
@@ -75,7 +74,7 @@ impl Eq for Word {
 fn is_word(bytes: &[u8]) -> bool
     ensures { result ≡ is_word bytes.now }
 {
-    1 <= bytes.len() && bytes.len() <= MAX_WORD && are_word_bytes(bytes)
+    1 <= bytes.len() && bytes.len() <= MOST_WORD && are_word_bytes(bytes)
 }
 
 fn are_word_bytes(bytes: &[u8]) -> bool
