@@ -1,6 +1,6 @@
 // Reading the seven truth values of a directory.
-ghost use Rattle.std.specs.Prelude.{◌≡◌, ◌<◌, IfOk, is_ok};
-ghost use Rattle.nn_host.specs.Moments.{disk_at};
+ghost use Rattle.std.specs.Prelude.{◌≡◌, ◌<◌, IfOk, OnOk, is_ok};
+ghost use Rattle.nn_host.specs.Moments.{disk_at, moment};
 ghost use Rattle.nn_host.specs.Runs.{Looked, OnlyAt};
 ghost use Rattle.nn_state.specs.Table.{seven_of};
 
@@ -8,7 +8,8 @@ use crate::Seven;
 use nn_base::{DirNo, FileName, Sub};
 use nn_host::{Failed, Host};
 
-/// The seven truth values of directory `i`, as its contents read. It changes nothing.
+/// The seven truth values of directory `i`, as its contents read. It changes nothing, and answers nothing that it hasn't asked
+/// the host for.
 ///
 /// `Failed` where a call on this directory failed.
 pub fn look<H: Host>(host: &mut H, i: DirNo) -> Result<Seven, Failed>
@@ -16,6 +17,7 @@ pub fn look<H: Host>(host: &mut H, i: DirNo) -> Result<Seven, Failed>
     ensures ok { H.told → IfOk result (λ seven. seven ≡ seven_of ((H.state host.old).reads i.0)) }
     ensures kept { Looked H.told i.0 (H.state host.old) (H.state host.new) (is_ok result) }
     ensures any_moment { OnlyAt H.told i.0 (H.state host.old) (H.state host.new) (λ d. d ≡ disk_at (H.state host.old) i.0) }
+    ensures asked { H.told → OnOk result (moment (H.state host.old) < moment (H.state host.new)) }
 {
     let root = host.has_root(i)?;
     let current = host.has_file(i, Sub::Current, FileName::Version)?;

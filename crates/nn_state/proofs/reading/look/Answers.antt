@@ -1,8 +1,9 @@
-use Rattle.std.proofs.Common.{◌∙◌, ap, refl}
-use Rattle.std.specs.Prelude.{is_some}
+use Rattle.std.proofs.Common.{◌∙◌, [], ◌∷◌, length, Result, Ok, Err, ap, refl, arith, length-append}
+use Rattle.std.specs.Prelude.{is_some, IsErr, OnOk}
 use Rattle.nn_base.specs.declared.sub.Sub.TheVariants.{Current, Previous}
 use Rattle.nn_base.specs.declared.file_name.FileName.TheVariants.{Version}
-use Rattle.nn_host.specs.Disk.{Reads}
+use Rattle.nn_host.specs.Disk.{Reads, Look}
+use Rattle.nn_host.specs.Moments.{Entry, On}
 use Rattle.nn_host.proofs.RunsLemmas.{looked_once, looked_then, looked_failed}
 use Rattle.nn_host.proofs.WorkLemmas.{still_once, still_then}
 use Rattle.nn_state.specs.Table.{seven_of}
@@ -40,6 +41,22 @@ returns-in_err-previous-clause-any_moment g c = still_then (still_then (still_on
 pub returns-in_err-under_way-clause-any_moment : goal.returns-in_err-under_way-clause-any_moment
 returns-in_err-under_way-clause-any_moment g c = still_then (still_then (still_then (still_once c.in_ok-root.ensures.call) (still_once c.in_ok-current.ensures.call)) (still_once c.in_ok-previous.ensures.call)) c.in_err-under_way.ensures.any_moment
 
+unanswered : {T E : Type 0} (P : Type 0) (result : Result T E) → IsErr result → OnOk result P
+unanswered P (Ok v) failed = absurd (cc failed)
+unanswered P (Err e) failed = tt
+
+pub returns-in_err-root-clause-asked : goal.returns-in_err-root-clause-asked
+returns-in_err-root-clause-asked g c = λ tells. unanswered _ _ c.from_residual.ensures.0
+
+pub returns-in_err-current-clause-asked : goal.returns-in_err-current-clause-asked
+returns-in_err-current-clause-asked g c = λ tells. unanswered _ _ c.from_residual-in_err-current.ensures.0
+
+pub returns-in_err-previous-clause-asked : goal.returns-in_err-previous-clause-asked
+returns-in_err-previous-clause-asked g c = λ tells. unanswered _ _ c.from_residual-in_err-previous.ensures.0
+
+pub returns-in_err-under_way-clause-asked : goal.returns-in_err-under_way-clause-asked
+returns-in_err-under_way-clause-asked g c = λ tells. unanswered _ _ c.from_residual-in_err-under_way.ensures.0
+
 pub returns : goal.returns
 returns g c =
     let first = looked_once c.in_ok-root.ensures.call in
@@ -59,4 +76,9 @@ returns g c =
           };
       kept = looked_then third c.in_ok-under_way.ensures.kept;
       any_moment = still_then (still_then (still_then (still_once c.in_ok-root.ensures.call) (still_once c.in_ok-current.ensures.call)) (still_once c.in_ok-previous.ensures.call)) c.in_ok-under_way.ensures.any_moment;
+      asked = λ tells.
+          let rest = looked_then (looked_then (looked_once c.in_ok-current.ensures.call) (looked_once c.in_ok-previous.ensures.call)) c.in_ok-under_way.ensures.kept in
+          let before = g.H.Host.state c.args.host.now in
+          let entry : Entry = record { ended = before.ended; before = before.now; event = On c.args.i.0 Look } in
+          omega (arith, ap length (c.in_ok-root.ensures.call.effect tells).ok.recorded.trace, length-append before.trace (entry ∷ []), rest.untouched.later tells);
     }
