@@ -1,5 +1,5 @@
 -- Directories whose state is a type: which state of which directory it is, and that the contents are so.
-use Rattle.std.specs.Prelude.{◌≡◌, false, Ok}
+use Rattle.std.specs.Prelude.{◌≡◌, true, false, Ok}
 use Rattle.nn_base.specs.declared.ids.DirNo.{DirNo}
 use Rattle.nn_base.specs.declared.sub.Sub.TheVariants.{Previous}
 use Rattle.nn_host.specs.Disk.{Held}
@@ -7,6 +7,8 @@ use Rattle.nn_state.specs.declared.state.StorageState.{StorageState}
 use Rattle.nn_state.specs.declared.state.StorageState.TheVariants as state
 use Rattle.nn_state.specs.declared.typed.Found.{Found}
 use Rattle.nn_state.specs.declared.typed.Found.TheVariants as found
+use Rattle.nn_state.specs.declared.typed.Settled.{Settled}
+use Rattle.nn_state.specs.declared.typed.Settled.TheVariants as settled
 use Rattle.nn_state.specs.Table.{seven_of, table_of}
 
 abbrev pub state_of : Found → StorageState
@@ -48,3 +50,19 @@ FitsFresh d = IsIn state.NotFormatted d
 pub record FitsReady {A : Type 0} (d : Held A) : Type 0 where
   pub normal : IsIn state.Normal d
   pub nothing_saved : d.has Previous ≡ false
+
+-- what a ReadyWithPrevious says of them
+pub record FitsWithPrevious {A : Type 0} (d : Held A) : Type 0 where
+  pub normal : IsIn state.Normal d
+  pub something_saved : d.has Previous ≡ true
+
+-- the directory in which nothing is under way, and what it says of the contents
+abbrev pub dir_in : Settled → DirNo
+dir_in (settled.Ready it) = it.dir
+dir_in (settled.ReadyWithPrevious it) = it.dir
+dir_in (settled.Fresh it) = it.dir
+
+abbrev pub FitsSettled : {A : Type 0} → Settled → Held A → Type 0
+FitsSettled (settled.Ready it) d = FitsReady d
+FitsSettled (settled.ReadyWithPrevious it) d = FitsWithPrevious d
+FitsSettled (settled.Fresh it) d = FitsFresh d

@@ -4,15 +4,20 @@
 
 mod analysis;
 mod reading;
+mod recovery;
+mod renaming;
 mod serving;
+mod settling;
 mod state;
 mod typed;
 
 pub use analysis::{found, table};
 pub use reading::look;
 pub use serving::seat;
+pub use settling::Stuck;
 pub use state::{Seven, StorageState, Why};
 pub use typed::{
     CompleteCheckpoint, CompleteFinalize, CompleteRollback, CompleteUpgrade, Found, Fresh,
-    NonExistent, Normal, NotFormatted, Ready, RecoverCheckpoint, RecoverRollback, RecoverUpgrade,
+    NonExistent, Normal, NotFormatted, Ready, ReadyWithPrevious, RecoverCheckpoint,
+    RecoverRollback, RecoverUpgrade, Settled,
 };

@@ -77,6 +77,23 @@ pub struct Ready {
     pub dir: DirNo,
 }
 
+/// A directory that serves and has a saved state: nothing is under way.
+#[derive(Debug, PartialEq, Eq, Drop)]
+pub struct ReadyWithPrevious {
+    pub dir: DirNo,
+}
+
+/// A directory in which nothing is under way, by what there is in it.
+#[derive(Debug, PartialEq, Eq, Drop)]
+pub enum Settled {
+    /// It serves, and has no saved state.
+    Ready(Ready),
+    /// It serves, and has a saved state.
+    ReadyWithPrevious(ReadyWithPrevious),
+    /// Nothing is formatted here.
+    Fresh(Fresh),
+}
+
 /// A directory as it was found, by the state that the table gives it. What is done with it takes it, so that nothing is
 /// done to a state that is over.
 #[derive(Debug, PartialEq, Eq, Drop)]

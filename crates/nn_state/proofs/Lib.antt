@@ -1,0 +1,9 @@
+pub mod TableLemmas
+pub mod LeftLemmas
+pub mod PartLemmas
+pub mod SeatLemmas
+pub mod RenamingLemmas
+pub mod BackLemmas
+pub mod CompleteLemmas
+pub mod CallLemmas
+pub mod SettlingLemmas

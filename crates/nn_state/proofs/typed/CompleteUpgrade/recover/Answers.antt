@@ -1,0 +1,14 @@
+use Rattle.nn_state.proofs.CallLemmas.{upgraded_work, upgraded_was, upgraded_fits}
+use Rattle.nn_state.proofs.typed.CompleteUpgrade.recover.Goals as goal
+
+pub returns-in-Ok-clause-ok : goal.returns-in-Ok-clause-ok
+returns-in-Ok-clause-ok g c = upgraded_was (λ tells. g.met.H.Host.lawful tells c.args.host.now) c.requires.fits c.in-Ok.ensures
+
+pub returns-in-Ok-clause-fits : goal.returns-in-Ok-clause-fits
+returns-in-Ok-clause-fits g c = λ tells versioned. upgraded_fits (λ tells. g.met.H.Host.lawful tells c.args.host.now) c.requires.fits c.in-Ok.ensures tells
+
+pub returns-in-Ok-clause-any_moment : goal.returns-in-Ok-clause-any_moment
+returns-in-Ok-clause-any_moment g c = upgraded_work (λ tells. g.met.H.Host.lawful tells c.args.host.now) c.requires.fits c.in-Ok.ensures
+
+pub returns-in-Err-clause-any_moment : goal.returns-in-Err-clause-any_moment
+returns-in-Err-clause-any_moment g c = upgraded_work (λ tells. g.met.H.Host.lawful tells c.args.host.now) c.requires.fits c.in-Err.ensures
