@@ -7,3 +7,5 @@ pub mod BackLemmas
 pub mod CompleteLemmas
 pub mod CallLemmas
 pub mod SettlingLemmas
+pub mod RestLemmas
+pub mod BayLemmas

@@ -1,12 +1,13 @@
 -- What each state says of the folders, and what the folders say of the seat.
-use Rattle.std.proofs.Common.{◌≡◌, Bool, true, false, Ok, Some, None, refl, arith}
+use Rattle.std.proofs.Common.{◌≡◌, ◌≢◌, Bool, true, false, Ok, Some, None, refl, arith}
 use Rattle.std.specs.Prelude.{is_some, if◌then◌else◌}
 use Rattle.nn_base.specs.declared.sub.Sub.{Sub}
 use Rattle.nn_base.specs.declared.sub.Sub.TheVariants.{Current, Previous, PreviousTmp, RemovedTmp, FinalizedTmp, LastCheckpointTmp}
 use Rattle.nn_base.specs.declared.file_name.FileName.TheVariants.{Version}
 use Rattle.nn_host.specs.Disk.{Held}
 use Rattle.nn_state.specs.declared.state.Seven.{Seven}
-use Rattle.nn_state.specs.declared.state.StorageState.TheVariants.{NotFormatted, Normal, CompleteUpgrade, RecoverUpgrade, CompleteFinalize, CompleteRollback, RecoverRollback, CompleteCheckpoint, RecoverCheckpoint}
+use Rattle.nn_state.specs.declared.state.StorageState.{StorageState}
+use Rattle.nn_state.specs.declared.state.StorageState.TheVariants.{NonExistent, NotFormatted, Normal, CompleteUpgrade, RecoverUpgrade, CompleteFinalize, CompleteRollback, RecoverRollback, CompleteCheckpoint, RecoverCheckpoint}
 use Rattle.nn_state.specs.Table.{seven_of, table_of, rows, first_row}
 use Rattle.nn_state.specs.Seat.{seat_of, seat, if_there}
 
@@ -67,7 +68,15 @@ recover_checkpoint_flags : (root a b c d current previous : Bool) → first_row 
 recover_checkpoint_flags true false false false true false previous e = refl
 recover_checkpoint_flags root a b c d current previous e = grind (arith, e)
 
+rooted_flags : (root a b c d current previous : Bool) (state : StorageState) → first_row (rows (flags root a b c d current previous)) ≡ Ok state → state ≢ NonExistent → root ≡ true
+rooted_flags true a b c d current previous state e there = refl
+rooted_flags false a b c d current previous state e there = absurd (there cc)
+
 module _ (s : Seven) where
+  pub rooted : (state : StorageState) → table_of s ≡ Ok state → state ≢ NonExistent → s.root ≡ true
+  unfolding table_of
+  rooted state e there = rooted_flags s.root s.previous_tmp s.removed_tmp s.finalized_tmp s.last_checkpoint_tmp s.current s.previous state e there
+
   pub normal_seven : table_of s ≡ Ok Normal → s ≡ at_rest true s.previous
   unfolding table_of
   normal_seven e = normal_flags s.root s.previous_tmp s.removed_tmp s.finalized_tmp s.last_checkpoint_tmp s.current s.previous e

@@ -4,3 +4,4 @@ pub mod Seat
 pub mod Typed
 pub mod Renaming
 pub mod Recovery
+pub mod Bays

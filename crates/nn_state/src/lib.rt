@@ -3,6 +3,7 @@
 #![tactic(auto)]
 
 mod analysis;
+mod bay;
 mod reading;
 mod recovery;
 mod renaming;
@@ -12,6 +13,7 @@ mod state;
 mod typed;
 
 pub use analysis::{found, table};
+pub use bay::{Bay, BayFault};
 pub use reading::look;
 pub use serving::seat;
 pub use settling::Stuck;
