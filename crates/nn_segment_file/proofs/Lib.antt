@@ -1,0 +1,11 @@
+pub mod TornLemmas
+pub mod FolderLemmas
+pub mod LogLemmas
+pub mod StepLemmas
+pub mod SeenLemmas
+pub mod BesideLemmas
+pub mod CallLemmas
+pub mod MomentLemmas
+pub mod StageLemmas
+pub mod BeginLemmas
+pub mod ListLemmas

@@ -1,0 +1,36 @@
+use Rattle.std.proofs.Common.{◌≡◌, ℕ, true, Some, OnOk, subst}
+use Rattle.nn_host.specs.Disk.{certain}
+use Rattle.nn_base.specs.declared.sub.Sub.TheVariants.{Current}
+use Rattle.nn_base.specs.declared.file_name.FileName.TheVariants.{Seen, SeenTmp}
+use Rattle.nn_host.specs.Moments.{disk_at}
+use Rattle.nn_host.specs.Runs.{OnlyAt}
+use Rattle.nn_marks.specs.Seen.{seen_text_of}
+use Rattle.nn_small.specs.Small.{OldOrNew}
+use Rattle.nn_segment_file.proofs.BesideLemmas.{beside_once, beside_then, beside_seen, log_run, segments_then, make_on}
+use Rattle.nn_segment_file.proofs.CallLemmas.{start_first, start_second, start_third, start_done}
+use Rattle.nn_segment_file.proofs.segment.begin_segment.Goals as goal
+
+pub returns-in_err-make_file-clause-any_moment : goal.returns-in_err-make_file-clause-any_moment
+returns-in_err-make_file-clause-any_moment g c = start_first c.in_err-make_file.ensures
+
+pub returns-in_err-make_file-clause-beside : goal.returns-in_err-make_file-clause-beside
+returns-in_err-make_file-clause-beside g c = log_run (beside_once (make_on c.args.first) c.in_err-make_file.ensures)
+
+pub returns-in_err-write_records-clause-any_moment : goal.returns-in_err-write_records-clause-any_moment
+returns-in_err-write_records-clause-any_moment g c = start_second c.in_ok-make_file.ensures c.in_err-write_records.ensures.any_moment
+
+pub returns-in_err-write_records-clause-beside : goal.returns-in_err-write_records-clause-beside
+returns-in_err-write_records-clause-beside g c = log_run (segments_then (beside_once (make_on c.args.first) c.in_ok-make_file.ensures) c.in_err-write_records.ensures.beside)
+
+pub returns-clause-ok : goal.returns-clause-ok
+returns-clause-ok g c = λ tells. start_done c.in_ok-make_file.ensures c.in_ok-write_records.ensures.any_moment c.in_ok-write_records.ensures.ok
+    (subst (λ (n : ℕ). OnlyAt g.H.Host.told c.args.i.0 (g.H.Host.state c.write_records.new.host) (g.H.Host.state c.write_seen.new.host) (OldOrNew Current SeenTmp Seen (seen_text_of n) (disk_at (g.H.Host.state c.write_records.new.host) c.args.i.0))) c.first.view_is c.write_seen.ensures.any_moment)
+    c.write_seen.result tells
+    (subst (λ (n : ℕ). (disk_at (g.H.Host.state c.write_records.new.host) c.args.i.0).has Current ≡ true → OnOk c.write_seen.result ((disk_at (g.H.Host.state c.write_seen.new.host) c.args.i.0).file Current Seen ≡ certain (Some (seen_text_of n)))) c.first.view_is (c.write_seen.ensures.ok tells))
+
+pub returns-clause-any_moment : goal.returns-clause-any_moment
+returns-clause-any_moment g c = start_third c.in_ok-make_file.ensures c.in_ok-write_records.ensures.any_moment c.in_ok-write_records.ensures.ok
+    (subst (λ (n : ℕ). OnlyAt g.H.Host.told c.args.i.0 (g.H.Host.state c.write_records.new.host) (g.H.Host.state c.write_seen.new.host) (OldOrNew Current SeenTmp Seen (seen_text_of n) (disk_at (g.H.Host.state c.write_records.new.host) c.args.i.0))) c.first.view_is c.write_seen.ensures.any_moment)
+
+pub returns-clause-beside : goal.returns-clause-beside
+returns-clause-beside g c = beside_then (log_run (segments_then (beside_once (make_on c.args.first) c.in_ok-make_file.ensures) c.in_ok-write_records.ensures.beside)) (beside_seen c.write_seen.ensures.any_moment)
