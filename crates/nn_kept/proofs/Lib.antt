@@ -1,0 +1,10 @@
+pub mod KeptLemmas
+pub mod GreatestLemmas
+pub mod KeptOpenLemmas
+pub mod KeptStopLemmas
+pub mod KeptOnwardLemmas
+pub mod KeptEndsLemmas
+pub mod UnrefusedLemmas
+pub mod KeptFirstLemmas
+pub mod RollbackLemmas
+pub mod KeptRunLemmas

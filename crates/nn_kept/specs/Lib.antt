@@ -1,0 +1,5 @@
+pub mod Kept
+pub mod Laws
+pub mod Onward
+pub mod Ends
+pub mod First
