@@ -6,3 +6,5 @@ pub mod MakingLemmas
 pub mod LeftLemmas
 pub mod ChainLemmas
 pub mod RankLemmas
+pub mod ClearingLemmas
+pub mod ClearingCallLemmas

@@ -3,3 +3,4 @@ pub mod Publishing
 pub mod Rank
 pub mod Published
 pub mod Made
+pub mod Clearing

@@ -1,12 +1,15 @@
-//! Publishing an image into `current`, and making a directory with it, so that a stop at any moment leaves what was there, or the whole image under its name, or a directory that isn't formatted.
+//! Clearing a directory, publishing an image into `current`, and making a directory with it, so that a stop at any moment
+//! leaves what was there, or the whole image under its name, or a directory that isn't formatted.
 //! It knows nothing of journals, nor of several directories.
 #![tactic(auto)]
 
+mod clearing;
 mod fault;
 mod making;
 mod publishing;
 mod staging;
 
+pub use clearing::clear;
 pub use fault::MakeFault;
 pub use making::make;
 pub use publishing::publish;

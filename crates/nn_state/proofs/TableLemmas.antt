@@ -123,6 +123,10 @@ pub table_fresh : table_of (at_rest false false) ≡ Ok NotFormatted
 unfolding table_of
 table_fresh = refl
 
+pub table_in_finalize : (current : Bool) → table_of (in_finalize current) ≡ Ok CompleteFinalize
+unfolding table_of
+table_in_finalize current = refl
+
 pub seat_at_rest : (previous : Bool) → seat_of (at_rest true previous) ≡ seat (Some Current) (if_there previous Previous)
 unfolding table_of
 seat_at_rest previous = refl

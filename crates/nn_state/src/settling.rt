@@ -1,6 +1,7 @@
 // What a directory has in which nothing is under way.
 ghost use Rattle.std.specs.Prelude.{◌≡◌, ◌⊎◌, ◌<◌, false, IfOk, MatchResult, is_ok};
 ghost use Rattle.nn_base.specs.declared.sub.Sub.TheVariants.{Previous};
+ghost use Rattle.nn_host.specs.Disk.{Disk};
 ghost use Rattle.nn_host.specs.Moments.{disk_at};
 ghost use Rattle.nn_host.specs.Runs.{Looked, OnlyAt};
 ghost use Rattle.nn_state.specs.declared.state.StorageState.TheVariants as state;
@@ -13,6 +14,26 @@ use nn_host::{Failed, Host};
 /// A call on this directory failed, so that what was to be done in it is undone or unfinished.
 #[derive(Clone, Copy, Debug, PartialEq, Eq)]
 pub struct Stuck(pub DirNo);
+
+impl Settled {
+    /// The directory.
+    pub fn dir(&self) -> DirNo
+        ensures { result ≡ dir_in self.now }
+    {
+        match self {
+            Settled::Ready(it) => it.dir,
+            Settled::ReadyWithPrevious(it) => it.dir,
+            Settled::Fresh(it) => it.dir,
+        }
+    }
+
+    /// Whether it has a saved state.
+    pub fn has_previous(&self) -> bool
+        ensures { (d : Disk) → FitsSettled self.now d → d.has Previous ≡ result }
+    {
+        matches!(self, Settled::ReadyWithPrevious(_))
+    }
+}
 
 impl Normal {
     /// Looks whether there is a saved state. It changes nothing.
