@@ -3,6 +3,7 @@ use Rattle.std.specs.Prelude.{◌≡◌, ℕ, ℤ, ◌<◌, ◌≤◌, ◌^◌, 
 use Rattle.nn_base.specs.declared.file_name.FileName.{FileName}
 use Rattle.nn_base.specs.declared.file_name.FileName.TheVariants.{Version, VersionTmp, Seen, SeenTmp, Image, Md5, Md5Tmp, Ckpt, Edits, InProgress}
 use Rattle.nn_base.specs.FileText.{IsInRange}
+use Rattle.nn_base.specs.Limits.{most_segment_read}
 use Rattle.nn_host.specs.Listing.{IsBefore}
 use Rattle.nn_record.specs.declared.transaction.Record.{Record}
 use Rattle.nn_segment.specs.Segment.{IsIntactRun}
@@ -26,14 +27,14 @@ abbrev pub IsWithin : FileName → ℕ → Type 0
 IsWithin (Edits span) id = id ≤ span.1
 IsWithin name id = Unit {0}
 
--- a segment file of at most 2^30 bytes whose intact run has this record
+-- a segment file, no longer than is read, whose intact run has this record
 pub record HoldsRecord (folder : Folder) (layout : ℤ) (name : FileName) (r : Record) : Type 0 where
   pub ranged : IsInRange name
   pub first : ℕ
   pub begins : first_in name ≡ Some first
   pub bytes : List ℕ
   pub there : folder name ≡ Some bytes
-  pub small : length bytes ≤ 2 ^ 30
+  pub small : length bytes ≤ most_segment_read
   pub run : List Record
   pub intact : IsIntactRun bytes layout first run
   pub has : Contains run r

@@ -1,6 +1,6 @@
 -- The children of a directory, as a walk from the first to the next sibling comes to them.
 use Rattle.std.proofs.Common.{◌≡◌, ◌≢◌, ℕ, zero, suc, ◌+◌, ◌-◌, ◌<◌, ◌≤◌, Bool, true, false, cond, List, [], ◌∷◌, ◌++◌, inl, inr, length, drop, take, map, Option, Some, None, refl, sym, ap, subst, ◌∙◌, arith, is_some, length-append, append_assoc, append-nil}
-use Rattle.std.specs.Prelude.{slice_get, count_by, T}
+use Rattle.std.specs.Prelude.{slice_get, count_by}
 use Rattle.std.specs.Ordering.{is_lt, ordering_then}
 use Rattle.std.specs.List.{flat_map}
 use Rattle.std.specs.Cmp.{IsTotalOrder, tied_itself}
@@ -15,21 +15,18 @@ use Rattle.std.proofs.lemmas.List.{take_more, take_all, take-map, map_push, leng
 use Rattle.std.proofs.lemmas.List.Concat.{flat_map-append}
 use Rattle.nn_wire.specs.Varint.{varint}
 use Rattle.nn_base.specs.Paths.{Bytes, Names, name_cmp, path_cmp, is_under}
+use Rattle.nn_base.proofs.PlainLemmas.{some_of, is_true}
 use Rattle.nn_tree.specs.declared.node.Node.{Node}
 use Rattle.nn_tree.specs.declared.spot.Spot.{Spot}
 use Rattle.nn_tree.specs.Namespace.{Nodes, IsNamespace}
 use Rattle.nn_tree.specs.Spots.{IsNextChild}
-use Rattle.nn_tree.proofs.LinksLemmas.{paths_total, paths_exact, some_of}
+use Rattle.nn_tree.proofs.LinksLemmas.{paths_total, paths_exact}
 use Rattle.nn_tree.proofs.PrefixLemmas.{under_split}
 use Rattle.nn_tree.proofs.OrderLemmas.{cancel, under_front, name_above}
 use Rattle.nn_tree.proofs.SortedLemmas.{rises, count_at, find_at, found_at}
 use Rattle.nn_image.specs.Image.{is_child, children, child_ids, entry_of}
 use Rattle.nn_image.specs.Saving.{passed, IsAmongChildren, entry_text}
 use Rattle.nn_message.specs.Spelling.{delimited, dir_entry}
-
-pub is_true : (b : Bool) → T b → b ≡ true
-is_true true h = refl
-is_true false h = absurd h
 
 one_name : (rest : Names) → length rest ≡ 1 → (name : Bytes) × (rest ≡ name ∷ [])
 one_name [] h = absurd (omega arith)

@@ -7,11 +7,11 @@ use Rattle.std.specs.FinMap.{get, empty, entries, get-empty}
 use Rattle.std.proofs.lemmas.Option.{none-some, same_Some}
 use Rattle.nn_tree.specs.Nodes.{is_dir}
 use Rattle.nn_base.specs.Paths.{Bytes, Names, path_cmp}
+use Rattle.nn_base.proofs.PlainLemmas.{some_of}
 use Rattle.nn_strtab.specs.Numbers.{first_uses}
 use Rattle.nn_tree.specs.declared.node.Node.{Node}
 use Rattle.nn_tree.specs.Namespace.{Namespace, Nodes}
 use Rattle.nn_tree.specs.Spots.{last_name}
-use Rattle.nn_tree.proofs.LinksLemmas.{some_of}
 use Rattle.nn_message.specs.Messages.{Inode, IsInode, DirEntry}
 use Rattle.nn_image.specs.Image.{labels, string_table, attributes_of, inode_of, child_ids}
 use Rattle.nn_tree.specs.Imaged.{IsImaged}

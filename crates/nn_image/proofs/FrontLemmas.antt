@@ -1,6 +1,5 @@
 -- The entries of a map in two parts: those in front of a path, and those behind it.
 use Rattle.std.proofs.Common.{◌≡◌, ◌≢◌, ◌⊎◌, inl, inr, ℕ, Bool, true, false, cond, List, [], ◌∷◌, ◌++◌, map, Some, None, refl, sym, ap, subst, ◌∙◌, nat_eq}
-use Rattle.std.specs.Prelude.{T}
 use Rattle.std.specs.List.{filter, IsDistinct, AllByRecursion}
 use Rattle.std.specs.Ordering.{is_lt, is_eq}
 use Rattle.std.specs.declared.cmp.Ordering.{Ordering}
@@ -9,10 +8,10 @@ use Rattle.std.specs.FinMap.{get, insert, entries, entries_sorted, get-entries, 
 use Rattle.std.specs.FinMap.Entries.{find, is_sorted, below_all}
 use Rattle.std.proofs.lemmas.Bool.{and_parts}
 use Rattle.nn_base.specs.Paths.{Bytes, Names, path_cmp, is_under}
+use Rattle.nn_base.proofs.PlainLemmas.{is_less, is_true}
 use Rattle.nn_tree.specs.declared.node.Node.{Node}
 use Rattle.nn_tree.specs.Namespace.{Nodes}
 use Rattle.nn_tree.specs.Spots.{last_name}
-use Rattle.nn_tree.proofs.LeastLemmas.{less_than}
 use Rattle.nn_tree.proofs.OrderLemmas.{between}
 use Rattle.nn_image.specs.Image.{is_child}
 use Rattle.nn_image.proofs.ChildLemmas.{child_name}
@@ -27,14 +26,10 @@ unfoldable pub AreAfter : Names → List (Names × Node) → Type 0
 AreAfter q [] = Unit {0}
 AreAfter q (e ∷ es) = (path_cmp q e.0 ≡ Less) × AreAfter q es
 
-is_true : (b : Bool) → T b → b ≡ true
-is_true true h = refl
-is_true false h = absurd h
-
 after_so : (q : Names) (es : List (Names × Node)) → below_all path_cmp q es ≡ true → AreAfter q es
 unfolding AreAfter
 after_so q [] h = tt
-after_so q (e ∷ es) h = let parts = and_parts (is_lt (path_cmp q e.0)) (below_all path_cmp q es) h in (less_than _ parts.0, after_so q es parts.1)
+after_so q (e ∷ es) h = let parts = and_parts (is_lt (path_cmp q e.0)) (below_all path_cmp q es) h in (is_less _ parts.0, after_so q es parts.1)
 
 none_earlier : (p q : Names) (es : List (Names × Node)) → path_cmp p q ≡ Less → AreAfter q es → find path_cmp p es ≡ None
 unfolding AreAfter
@@ -47,7 +42,7 @@ pub record Splits (done : List (Names × Node)) (e : Names × Node) (rest : List
   pub after : AreAfter e.0 rest
 
 below_at : (q : Names) (done : List (Names × Node)) (e : Names × Node) (rest : List (Names × Node)) → below_all path_cmp q (done ++ e ∷ rest) ≡ true → path_cmp q e.0 ≡ Less
-below_at q [] e rest h = less_than _ (and_parts (is_lt (path_cmp q e.0)) (below_all path_cmp q rest) h).0
+below_at q [] e rest h = is_less _ (and_parts (is_lt (path_cmp q e.0)) (below_all path_cmp q rest) h).0
 below_at q (d ∷ done) e rest h = below_at q done e rest (and_parts (is_lt (path_cmp q d.0)) (below_all path_cmp q (done ++ e ∷ rest)) h).1
 
 splits : (done : List (Names × Node)) (e : Names × Node) (rest : List (Names × Node)) → is_sorted path_cmp (done ++ e ∷ rest) ≡ true → Splits done e rest

@@ -3,6 +3,7 @@ use Rattle.std.proofs.Common.{◌≡◌, ℕ, ◌+◌, ◌^◌, ◌<◌, ◌≤�
 use Rattle.std.specs.Prelude.{codes, All, is_some}
 use Rattle.std.proofs.lemmas.List.Elements.{All-cons}
 use Rattle.nn_base.specs.Paths.{Bytes}
+use Rattle.nn_base.specs.Limits.{most_image}
 use Rattle.nn_wire.specs.Field.{varint_field}
 use Rattle.nn_message.specs.declared.summary.Lengths.{Lengths}
 use Rattle.nn_message.specs.Frame.{Section, IsSection, codec_field, sections_field, Sections, Summary, IsSummary, summary_message, summary_with, summary_of, places, named, lengths_of, body, framed}
@@ -13,10 +14,10 @@ use Rattle.nn_message.proofs.PlaceLemmas.{AreAlike, one_summary}
 pub one_framed : (bytes text other summary message : Bytes) → IsFramed bytes text summary → IsFramed bytes other message → (text ≡ other) × (summary ≡ message)
 one_framed bytes text other summary message first second = one_frame text other summary message (omega (arith, first.0, ap length first.1)) (sym first.1 ∙ second.1)
 
-pub framed_short : (bytes text summary : Bytes) → IsFramed bytes text summary → (8 + length text ≤ 2 ^ 30) × (length summary ≤ 2 ^ 30)
+pub framed_short : (bytes text summary : Bytes) → IsFramed bytes text summary → (8 + length text ≤ most_image) × (length summary ≤ most_image)
 framed_short bytes text summary is = let few = framed_few text summary in (omega (arith, few, is.0, ap length is.1), omega (arith, few, is.0, ap length is.1))
 
-pub body_few : (bytes text summary : Bytes) → IsFramed bytes text summary → length text ≤ 2 ^ 30
+pub body_few : (bytes text summary : Bytes) → IsFramed bytes text summary → length text ≤ most_image
 body_few bytes text summary is = omega (arith, (framed_short bytes text summary is).0)
 
 -- ---- summaries
@@ -37,7 +38,7 @@ one_has bytes text other s t first second =
 
 -- ---- sections
 
-ranged : (l : Lengths) → l.info + l.strings + l.inodes + l.directories ≤ 2 ^ 30 → All IsSection (places 8 (named l))
+ranged : (l : Lengths) → l.info + l.strings + l.inodes + l.directories ≤ most_image → All IsSection (places 8 (named l))
 unfolding places
 ranged l few =
     let p : Section = record { name = codes "NS_INFO"; length = l.info; offset = 8 } in
@@ -70,11 +71,11 @@ places_few layout l =
     let fields = sections_field (places 8 (named l)) in
     omega (arith, length-append (varint_field 1 1 ++ varint_field 2 layout ++ codec_field None) fields)
 
-pub some_sections : (layout : ℕ) (l : Lengths) → layout < 2 ^ 64 → l.info + l.strings + l.inodes + l.directories ≤ 2 ^ 30 → IsSummary (summary_with layout l)
+pub some_sections : (layout : ℕ) (l : Lengths) → layout < 2 ^ 64 → l.info + l.strings + l.inodes + l.directories ≤ most_image → IsSummary (summary_with layout l)
 unfolding summary_with
 some_sections layout l small few = record { version = refl; layout = small; sections = ranged l few }
 
-pub lengths_few : (s : Sections) → length (body s) ≤ 2 ^ 30 → (lengths_of s).info + (lengths_of s).strings + (lengths_of s).inodes + (lengths_of s).directories ≤ 2 ^ 30
+pub lengths_few : (s : Sections) → length (body s) ≤ most_image → (lengths_of s).info + (lengths_of s).strings + (lengths_of s).inodes + (lengths_of s).directories ≤ most_image
 unfolding lengths_of
 lengths_few s few = omega (arith, few, body_length s)
 

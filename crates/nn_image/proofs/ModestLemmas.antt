@@ -7,6 +7,7 @@ use Rattle.std.proofs.lemmas.List.Concat.{length-flat_map}
 use Rattle.std.proofs.lemmas.List.Sums.{sum_by-le}
 use Rattle.nn_base.specs.Labels.{IsLabel}
 use Rattle.nn_base.specs.Paths.{Bytes, Names, is_name}
+use Rattle.nn_base.specs.Limits.{most_name}
 use Rattle.nn_base.proofs.PathsLemmas.{name_is_short}
 use Rattle.nn_wire.specs.Varint.{varint}
 use Rattle.nn_wire.specs.Field.{varint_field, bytes_field}
@@ -125,7 +126,7 @@ kind_few (Dir quota) a =
       length-append v w,
     )
 
-inode_few : (i : Inode) → length i.name ≤ 255 → length (delimited (inode i)) ≤ 375 + 44 * length (blocks_of i.kind)
+inode_few : (i : Inode) → length i.name ≤ most_name → length (delimited (inode i)) ≤ 375 + 44 * length (blocks_of i.kind)
 unfolding inode
 inode_few i short =
     let v = varint_field 1 (kind_number i.kind) in
@@ -146,7 +147,7 @@ inode_few i short =
       length-append v w,
     )
 
-last_short : (p : Names) → All (λ name. is_name name ≡ true) p → length (last_name p) ≤ 255
+last_short : (p : Names) → All (λ name. is_name name ≡ true) p → length (last_name p) ≤ most_name
 last_short p all = elim (last_is_name p all) [
   | inl none ↦ omega (arith, ap length none)
   | inr is ↦ name_is_short (last_name p) is

@@ -9,9 +9,10 @@ use Rattle.std.proofs.lemmas.Option.{none-some, same_Some}
 use Rattle.std.proofs.lemmas.List.Elements.{All-push, All-nil}
 use Rattle.nn_base.specs.Limits.{most_levels, most_path}
 use Rattle.nn_base.specs.Paths.{Bytes, Names, path_cmp, is_name, joined, IsPath}
+use Rattle.nn_base.proofs.PlainLemmas.{some_of}
 use Rattle.nn_tree.specs.declared.node.Node.{Node}
 use Rattle.nn_tree.specs.Namespace.{Nodes, IsNamespace, IsRoot, is_dir_at}
-use Rattle.nn_tree.proofs.LinksLemmas.{paths_total, paths_exact, some_of}
+use Rattle.nn_tree.proofs.LinksLemmas.{paths_total, paths_exact}
 use Rattle.nn_image.proofs.LevelsLemmas.{dir_stays}
 
 -- a path has one directory and one name

@@ -8,10 +8,11 @@ use Rattle.std.specs.declared.cmp.Ordering.TheVariants.{Less, Equal, Greater}
 use Rattle.std.specs.FinMap.{get, entries}
 use Rattle.std.proofs.lemmas.List.{append_cancel_left}
 use Rattle.nn_base.specs.Paths.{Bytes, Names, path_cmp, name_cmp, is_under, is_name}
+use Rattle.nn_base.proofs.PlainLemmas.{some_of}
 use Rattle.nn_tree.specs.declared.node.Node.{Node}
 use Rattle.nn_tree.specs.Namespace.{Nodes, IsNamespace}
 use Rattle.nn_tree.specs.Spots.{last_name}
-use Rattle.nn_tree.proofs.LinksLemmas.{paths_total, paths_exact, some_of}
+use Rattle.nn_tree.proofs.LinksLemmas.{paths_total, paths_exact}
 use Rattle.nn_tree.proofs.PrefixLemmas.{under_split}
 use Rattle.nn_tree.proofs.OrderLemmas.{cancel, none_less, name_above}
 use Rattle.nn_image.specs.Image.{is_child, child_ids}

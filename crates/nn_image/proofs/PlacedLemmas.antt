@@ -7,10 +7,10 @@ use Rattle.std.proofs.lemmas.Bool.{and_parts, and_from, eqb-true, eq-eqb, leb-tr
 use Rattle.std.proofs.lemmas.Option.{none-some, cond_some, option_and_then_some}
 use Rattle.nn_base.specs.Limits.{most_levels, most_path, most_nodes, most_blocks}
 use Rattle.nn_base.specs.Paths.{Bytes, Names, is_name, name_cmp, joined}
+use Rattle.nn_base.proofs.PlainLemmas.{is_less}
 use Rattle.nn_tree.specs.declared.node.Kind.{Kind}
 use Rattle.nn_tree.specs.Nodes.{is_dir, blocks_of}
 use Rattle.nn_tree.specs.Namespace.{Nodes, node_count, block_count}
-use Rattle.nn_tree.proofs.LeastLemmas.{less_than}
 use Rattle.nn_message.specs.Messages.{Inode, DirEntry}
 use Rattle.nn_image.specs.Assembly.{Owned, use_names, Level, Partial, nothing_put, Place, waiting, is_next, placed, has_room, with_node, put_node, add_inode, is_root, add_root}
 
@@ -49,7 +49,7 @@ placed_so (level ∷ outer) inode place h =
             rest = rest;
             children = is ∙ ap (λ id. id ∷ rest) (eqb-true child inode.id named.0);
             named = named.1;
-            behind = less_than _ tests.1;
+            behind = is_less _ tests.1;
             is = sym found.1;
           }
     ] refl h

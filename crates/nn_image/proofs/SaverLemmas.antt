@@ -2,6 +2,7 @@
 use Rattle.std.proofs.Common.{◌≡◌, ℕ, Bool, ◌≤◌, List, [], ◌++◌, length, min, sym, ap, subst, ◌∙◌, arith, length-append, append_assoc}
 use Rattle.std.proofs.Math.ListN.{drop_of_length-le}
 use Rattle.nn_base.specs.Paths.{Names}
+use Rattle.nn_base.specs.Limits.{most_piece}
 use Rattle.nn_tree.specs.declared.spot.Spot.{Spot}
 use Rattle.nn_tree.specs.Namespace.{Namespace}
 use Rattle.nn_image.specs.declared.saver.Saver.{Saver}
@@ -39,8 +40,8 @@ module _ (ns : Namespace) (has : Spot → Bool) (place : Spot → Names) where
 
 -- ---- how long a piece is
 
-pub full_piece : (front out rest : List ℕ) → front ≡ out ++ rest → 65536 ≤ length out → length out ≤ 65536 → length out ≡ min 65536 (length front)
+pub full_piece : (front out rest : List ℕ) → front ≡ out ++ rest → most_piece ≤ length out → length out ≤ most_piece → length out ≡ min most_piece (length front)
 full_piece front out rest is enough room = let e = ap length is in let s = length-append out rest in grind (arith, e, s)
 
-pub last_piece : (front out rest : List ℕ) → front ≡ out ++ rest → rest ≡ [] → length out ≤ 65536 → length out ≡ min 65536 (length front)
+pub last_piece : (front out rest : List ℕ) → front ≡ out ++ rest → rest ≡ [] → length out ≤ most_piece → length out ≡ min most_piece (length front)
 last_piece front out rest is none room = let e = ap length is in let s = length-append out rest in let z = ap length none in grind (arith, e, s, z)

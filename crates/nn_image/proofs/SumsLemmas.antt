@@ -13,14 +13,13 @@ use Rattle.std.proofs.lemmas.List.{take_at, length-map}
 use Rattle.std.proofs.lemmas.List.Elements.{All-head, All-tail}
 use Rattle.std.proofs.lemmas.List.Sums.{sum_by-cons, sum_by-le, length-filter}
 use Rattle.nn_base.specs.Paths.{Bytes, Names, path_cmp, is_under}
+use Rattle.nn_base.proofs.PlainLemmas.{is_less, is_true}
 use Rattle.nn_tree.specs.declared.node.Node.{Node}
 use Rattle.nn_tree.specs.Namespace.{Nodes}
 use Rattle.nn_tree.proofs.FindLemmas.{first_so, second_so}
-use Rattle.nn_tree.proofs.LeastLemmas.{less_than}
 use Rattle.nn_tree.proofs.LinksLemmas.{paths_total}
 use Rattle.nn_tree.proofs.PrefixLemmas.{under_split}
 use Rattle.nn_image.specs.Image.{is_child, children, child_ids}
-use Rattle.nn_image.proofs.ChildLemmas.{is_true}
 
 -- ---- lengths
 
@@ -74,7 +73,7 @@ no_later_parent q x (f ∷ es) h is =
     sum_by-cons (λ e. cond (is_child e.0 q) 1 0) f es ∙ by (is_child f.0 q) refl (no_later_parent q x es (second_so (is_lt (path_cmp x f.0)) _ h) is)
   where
     by : (b : Bool) → is_child f.0 q ≡ b → count_by (λ e. is_child e.0 q) es ≡ 0 → cond b 1 0 + count_by (λ e. is_child e.0 q) es ≡ 0
-    by true also none = absurd (not_below x f.0 (same_parent x f.0 q is also) (less_than _ (first_so _ _ h)))
+    by true also none = absurd (not_below x f.0 (same_parent x f.0 q is also) (is_less _ (first_so _ _ h)))
     by false not none = ap (λ n. 0 + n) none
 
 one_parent : (q : Names) (es : List (Names × Node)) → is_sorted path_cmp es ≡ true → count_by (λ e. is_child e.0 q) es ≤ 1

@@ -8,18 +8,17 @@ ghost use Rattle.nn_image.specs.Faults.{IsSmall};
 ghost use Rattle.nn_image.specs.Image.{image_of, string_table};
 ghost use Rattle.std.specs.FinMap as map;
 ghost use Rattle.nn_base.specs.Labels.{IsLabel};
+ghost use Rattle.nn_base.specs.Limits.{most_piece};
 ghost use Rattle.nn_image.specs.Saving.{Saves, left, ungiven, target_of, rest, steps};
 
 use crate::advance::advance;
 use crate::task::{Progress, Stage, Task};
+use nn_base::limits::MOST_PIECE;
 use nn_base::{NoMemory, Path, Txid};
 use nn_message::Lengths;
 use nn_strtab::Names;
 use nn_tree::{Spot, Tree, Walk, next_below};
 use std::alloc::Global;
-
-/// How many bytes each piece has but the last.
-const PIECE: usize = 65_536;
 
 /// An image that is being written. It holds the names of owners and groups and one message at a time, and not the
 /// namespace: that is handed in with each piece.
@@ -159,23 +158,26 @@ impl Saver {
     /// Gives out what there is of the message, as far as the piece has room.
     fn give(&mut self, out: &mut Vec<u8>) -> Result<(), NoMemory>
         requires within { self.old.given ≤ length self.old.message.items }
-        requires room { vec_len out.old < 65536 }
+        requires room { vec_len out.old < most_piece }
         ensures text { OnOk result (out.old.items ++ ungiven self.old ≡ out.new.items ++ ungiven self.new) }
         ensures within { OnOk result (self.new.given ≤ length self.new.message.items) }
-        ensures room { OnOk result (vec_len out.new ≤ 65536) }
+        ensures room { OnOk result (vec_len out.new ≤ most_piece) }
         ensures grows { OnOk result (vec_len out.old ≤ vec_len out.new) }
         ensures some { OnOk result (self.old.given < length self.old.message.items → vec_len out.old < vec_len out.new) }
         ensures task { self.new.task ≡ self.old.task }
         ensures names { self.new.names ≡ self.old.names }
         ensures progress { self.new.progress ≡ self.old.progress }
     {
-        let end = self.message.len().min(self.given + (PIECE - out.len()));
+        let end = self
+            .message
+            .len()
+            .min(self.given + (MOST_PIECE - out.len()));
         out.extend_from_slice(&self.message[self.given..end])?;
         self.given = end;
         Ok(())
     }
 
-    /// Puts the next piece of the image into `out`, in place of what it held. Each piece has 65,536 bytes but for the
+    /// Puts the next piece of the image into `out`, in place of what it held. Each piece has `MOST_PIECE` bytes but for the
     /// last, which has at least one. It answers false, with an empty `out`, where all bytes were given. The tree is
     /// the one that `save` was handed, unchanged. After an `Err` no more of the image can be had.
     pub fn next<T: Tree>(&mut self, tree: &T, out: &mut Vec<u8>) -> Result<bool, NoMemory>
@@ -183,12 +185,12 @@ impl Saver {
         ensures piece { OnOk result (left self.old (T.meaning tree.now) (T.has tree.now) (T.place tree.now) ≡
             out.new.items ++ left self.new (T.meaning tree.now) (T.has tree.now) (T.place tree.now)) }
         ensures len { OnOk result (length out.new.items ≡
-            min 65536 (length (left self.old (T.meaning tree.now) (T.has tree.now) (T.place tree.now)))) }
+            min most_piece (length (left self.old (T.meaning tree.now) (T.has tree.now) (T.place tree.now)))) }
         ensures more { IfOk result (λ more. more ≡ nat_lt 0 (length out.new.items)) }
         ensures kept { OnOk result (Saves self.new (T.meaning tree.now) (T.has tree.now) (T.place tree.now)) }
     {
         out.clear();
-        'piece: while out.len() < PIECE {
+        'piece: while out.len() < MOST_PIECE {
             if self.given == self.message.len() {
                 if self.is_done() {
                     break;

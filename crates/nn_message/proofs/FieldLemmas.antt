@@ -4,12 +4,13 @@ use Rattle.std.specs.Prelude.{IfSome}
 use Rattle.std.proofs.lemmas.Bool.{eq-eqb, eqb-true, le-ltb, ltb-false}
 use Rattle.std.proofs.lemmas.List.{take_at, drop_at, take-append-drop, length-take-le}
 use Rattle.nn_base.specs.Paths.{Bytes}
+use Rattle.nn_base.proofs.PlainLemmas.{some_is}
 use Rattle.nn_wire.specs.Varint.{varint}
 use Rattle.nn_wire.specs.Field.{varint_field, bytes_field}
 use Rattle.nn_message.specs.Messages.{IsVarintNumber}
 use Rattle.nn_message.specs.Spelling.{delimited}
 use Rattle.nn_message.specs.Reading.{Reader, Spells, Anywhere, mapped, number_at, keyed, varint_field_at, delimited_at, bytes_field_at, whole, within, inside, field_with, has_key, maybe}
-use Rattle.nn_message.proofs.SpellsLemmas.{bind_some, some_is, if_some, whole_again, whole_exact}
+use Rattle.nn_message.proofs.SpellsLemmas.{bind_some, if_some, whole_again, whole_exact}
 use Rattle.nn_message.proofs.NumberLemmas.{number_again, number_exact, Spells-number}
 
 if_none : {A : Type 0} (b : Bool) (m : Option A) (y : A) → cond b None m ≡ Some y → (b ≡ false) × (m ≡ Some y)

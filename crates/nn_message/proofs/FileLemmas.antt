@@ -3,7 +3,7 @@ use Rattle.std.proofs.Common.{◌≡◌, ◌≢◌, ℕ, ◌+◌, ◌*◌, ◌^�
 use Rattle.std.specs.Prelude.{IfSome}
 use Rattle.std.specs.List.{flat_map, All}
 use Rattle.std.proofs.lemmas.Bool.{lt-ltb, ltb-true, le-leb, leb-true, eq-eqb, eqb-true}
-use Rattle.nn_base.specs.Limits.{most_blocks_of_file, most_replication, IsLong}
+use Rattle.nn_base.specs.Limits.{most_blocks_of_file, most_replication, IsLong, most_mode}
 use Rattle.nn_base.specs.Paths.{Bytes}
 use Rattle.nn_wire.specs.Varint.{varint, spelled_within}
 use Rattle.nn_wire.specs.Field.{varint_field, bytes_field}
@@ -39,11 +39,11 @@ Spells-blocks =
 -- ---- owner, group and mode
 
 abbrev pub IsMode : ℕ → Type 0
-IsMode n = n ≤ 1023
+IsMode n = n ≤ most_mode
 
 Spells-mode : (number : ℕ) → 8 * number < 2 ^ 64 → Spells (mode_at number) (varint_field number) IsMode Anywhere
 unfolding mode_at
-Spells-mode number small = Spells-tested number (λ n. leb n 1023) IsMode small (λ n h. leb-true n 1023 h) (λ n h. (le-leb n 1023 h, omega arith))
+Spells-mode number small = Spells-tested number (λ n. leb n most_mode) IsMode small (λ n h. leb-true n most_mode h) (λ n h. (le-leb n most_mode h, omega arith))
 
 abbrev pub IsAccess : ℕ × (ℕ × ℕ) → Type 0
 IsAccess x = IsVarintNumber x.0 × (IsVarintNumber x.1.0 × IsMode x.1.1)

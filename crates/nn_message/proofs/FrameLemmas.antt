@@ -4,6 +4,7 @@ use Rattle.std.proofs.lemmas.List.{take_at, drop_at, append_cancel_left}
 use Rattle.std.proofs.lemmas.Nat.{from_be_bytes-to_be_bytes_4}
 use Rattle.std.specs.Int.{w32, to_be_bytes, from_be_bytes}
 use Rattle.nn_base.specs.Paths.{Bytes}
+use Rattle.nn_base.specs.Limits.{most_image}
 use Rattle.nn_wire.specs.Varint.{varint}
 use Rattle.nn_wire.proofs.SpellingLemmas.{same_varint}
 use Rattle.nn_message.specs.Spelling.{delimited}
@@ -24,7 +25,7 @@ pub record Ends (front text summary : Bytes) (len : ℕ) : Type 0 where
   pub before : front ≡ text ++ delimited summary
   pub counted : len ≡ length (delimited summary)
 
-pub ends : (bytes front text summary : Bytes) (len : ℕ) → length bytes ≤ 2 ^ 30 → len < 2 ^ 32 → bytes ≡ front ++ to_be_bytes w32 len → bytes ≡ text ++ end summary → Ends front text summary len
+pub ends : (bytes front text summary : Bytes) (len : ℕ) → length bytes ≤ most_image → len < 2 ^ 32 → bytes ≡ front ++ to_be_bytes w32 len → bytes ≡ text ++ end summary → Ends front text summary len
 unfolding end
 ends bytes front text summary len small fits split ended =
     let message = delimited summary in
@@ -61,7 +62,7 @@ framed_few text summary =
     let behind = to_be_bytes w32 (length message) in
     omega (arith, length-append (magic ++ text) (message ++ behind), length-append magic text, length-append message behind, length-append (varint (length summary)) summary)
 
-pub one_frame : (text other summary message : Bytes) → length (framed text summary) ≤ 2 ^ 30 → framed text summary ≡ framed other message → (text ≡ other) × (summary ≡ message)
+pub one_frame : (text other summary message : Bytes) → length (framed text summary) ≤ most_image → framed text summary ≡ framed other message → (text ≡ other) × (summary ≡ message)
 unfolding framed end
 one_frame text other summary message small e =
     let f : magic ++ (text ++ end summary) ≡ magic ++ (other ++ end message) = sym (append_assoc magic text (end summary)) ∙ e ∙ append_assoc magic other (end message) in
@@ -81,7 +82,7 @@ one_frame text other summary message small e =
       length_four size,
     ) in
     let front_size = length-append text (delimited summary) in
-    let first : length (text ++ end summary) ≤ 2 ^ 30 = omega (arith, ap length split, length-append front (to_be_bytes w32 size), length_four size, whole) in
+    let first : length (text ++ end summary) ≤ most_image = omega (arith, ap length split, length-append front (to_be_bytes w32 size), length_four size, whole) in
     let is = ends (text ++ end summary) front other message size first (omega arith) split behind in
     let place = end_place front other message size (length text) is (omega (arith, front_size)) in (
       sym (take_at text (delimited summary) (length text) refl) ∙ place.0,

@@ -3,8 +3,9 @@ use Rattle.std.proofs.Common.{◌≡◌, ℕ, zero, suc, ◌^◌, ◌<◌, Bool,
 use Rattle.std.specs.List.{flat_map, All}
 use Rattle.std.proofs.lemmas.List.Elements.{All-nil, All-cons, All-head, All-tail}
 use Rattle.nn_base.specs.Paths.{Bytes}
+use Rattle.nn_base.proofs.PlainLemmas.{some_is}
 use Rattle.nn_message.specs.Reading.{◌>>=◌, Reader, Spells, Anywhere, many_within, many}
-use Rattle.nn_message.proofs.SpellsLemmas.{bind_some, some_is}
+use Rattle.nn_message.proofs.SpellsLemmas.{bind_some}
 
 -- a text is there, and shows that there is more
 pub record Repeats {X : Type 0} (more : Bytes → Bool) (r : Reader X) (t : X → Bytes) (P : X → Type 0) : Type 0 where

@@ -3,11 +3,12 @@ use Rattle.std.proofs.Common.{◌≡◌, ℕ, zero, suc, ◌+◌, ◌-◌, ◌*�
 use Rattle.std.proofs.lemmas.Bool.{cases_lt, lt-ltb, le-ltb, ltb-true}
 use Rattle.std.proofs.lemmas.Slice.Eq.{bytes_eq-Decides}
 use Rattle.nn_base.specs.Paths.{Bytes}
+use Rattle.nn_base.proofs.PlainLemmas.{some_is}
 use Rattle.nn_wire.specs.Varint.{spelled_within, varint, Begins}
 use Rattle.nn_wire.proofs.SpellingLemmas.{room, spelled_last, spelled_more}
 use Rattle.nn_message.specs.Messages.{IsVarintNumber}
 use Rattle.nn_message.specs.Reading.{worth_at, number_at, Spells, Anywhere}
-use Rattle.nn_message.proofs.SpellsLemmas.{bind_some, if_some, some_is}
+use Rattle.nn_message.proofs.SpellsLemmas.{bind_some, if_some}
 
 worth_again : (k n : ℕ) (rest : Bytes) → n < room (suc k) → worth_at (spelled_within (suc k) n ++ rest) ≡ Some (n, rest)
 unfolding worth_at room

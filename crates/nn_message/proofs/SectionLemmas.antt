@@ -5,6 +5,7 @@ use Rattle.std.specs.Str.{bytes_eq}
 use Rattle.std.proofs.lemmas.List.{append-nil}
 use Rattle.std.proofs.lemmas.Slice.Eq.{bytes_eq-Decides}
 use Rattle.nn_base.specs.Paths.{Bytes}
+use Rattle.nn_base.specs.Limits.{most_image}
 use Rattle.nn_wire.specs.Field.{bytes_field}
 use Rattle.nn_message.specs.Frame.{Section, IsSection, section_message, sections_field, Sections, places, named, lengths_of, body}
 use Rattle.nn_message.proofs.FrameLemmas.{same_parts}
@@ -102,7 +103,7 @@ four_places : (s : Sections) → sections_field (places 8 (named (lengths_of s))
 unfolding sections_field places lengths_of parts_places
 four_places s = refl
 
-pub four_fill : (text fields : Bytes) (s : Sections) → length text ≤ 2 ^ 30 → length fields < 2 ^ 64 → text ≡ body s → fields ≡ sections_field (places 8 (named (lengths_of s))) → Fills text fields 8 (four s)
+pub four_fill : (text fields : Bytes) (s : Sections) → length text ≤ most_image → length fields < 2 ^ 64 → text ≡ body s → fields ≡ sections_field (places 8 (named (lengths_of s))) → Fills text fields 8 (four s)
 four_fill text fields s few short filled placed = record { filled = filled ∙ four_text s; placed = placed ∙ four_places s; low = omega (arith, few); short = short }
 
 -- four that were taken in turn

@@ -3,6 +3,7 @@ use Rattle.std.proofs.Common.{◌≡◌, ℕ, ◌^◌, ◌<◌, false, List, ◌
 use Rattle.std.specs.List.{flat_map, All}
 use Rattle.nn_base.specs.Limits.{IsLong}
 use Rattle.nn_base.specs.Paths.{Bytes}
+use Rattle.nn_base.proofs.PlainLemmas.{some_is}
 use Rattle.nn_wire.specs.Varint.{varint}
 use Rattle.nn_wire.specs.Field.{varint_field}
 use Rattle.nn_message.specs.Messages.{IsNsInfo, Text, IsText, Inode, IsInode, IsVarintNumber, DirEntry, IsDirEntry, Content, IsContent}
@@ -11,7 +12,7 @@ use Rattle.nn_message.specs.Frame.{Sections, sections_of, body}
 use Rattle.nn_message.specs.Reading.{Spells, Anywhere, inside, field_with, is_some_byte, many, whole}
 use Rattle.nn_message.specs.MessageReading.{long_at, child_at, children_at, dir_entry_at, strings_at, string_at, inodes_at, inode_at, info_section_at, strings_section_at, inodes_section_at, directories_section_at}
 use Rattle.nn_message.specs.Views.{AreInodes}
-use Rattle.nn_message.proofs.SpellsLemmas.{some_is, Spells-then, Spells-mapped, Spells-same, whole_again, whole_exact}
+use Rattle.nn_message.proofs.SpellsLemmas.{Spells-then, Spells-mapped, Spells-same, whole_again, whole_exact}
 use Rattle.nn_message.proofs.FieldLemmas.{Spells-inside, Spells-field_with}
 use Rattle.nn_message.proofs.ManyLemmas.{Spells-many}
 use Rattle.nn_message.proofs.MessageLemmas.{Spells-long, Spells-info_section, Spells-strings, Spells-string, Spells-inodes, Repeats-child, Repeats-inside}

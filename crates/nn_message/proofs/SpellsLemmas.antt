@@ -1,8 +1,9 @@
 -- Readers that are put together read back the texts that are put together, and nothing else.
-use Rattle.std.proofs.Common.{◌≡◌, ◌^◌, ◌<◌, Bool, true, false, cond, eqb, [], ◌∷◌, ◌++◌, length, Option, Some, None, is_some, refl, sym, ap, subst, ◌∙◌, append_assoc, arith, length-append}
+use Rattle.std.proofs.Common.{◌≡◌, ◌^◌, ◌<◌, Bool, true, false, cond, eqb, [], ◌∷◌, ◌++◌, length, Option, Some, None, refl, sym, ap, subst, ◌∙◌, append_assoc, arith, length-append}
 use Rattle.std.proofs.lemmas.Bool.{eqb-true}
 use Rattle.std.proofs.lemmas.List.{append-nil}
 use Rattle.nn_base.specs.Paths.{Bytes}
+use Rattle.nn_base.proofs.PlainLemmas.{some_is}
 use Rattle.nn_message.specs.Reading.{◌>>=◌, Read, Reader, Spells, ◌then◌, mapped, chosen, only, whole, Gives}
 
 -- ---- what a step gave
@@ -10,13 +11,6 @@ use Rattle.nn_message.specs.Reading.{◌>>=◌, Read, Reader, Spells, ◌then◌
 pub bind_some : {A B : Type 0} (m : Option A) (f : A → Option B) (y : B) → (m >>= f) ≡ Some y → (x : A) × (m ≡ Some x) × (f x ≡ Some y)
 bind_some None f y e = absurd cc
 bind_some (Some x) f y e = (x, refl, e)
-
-pub some_is : {A : Type 0} (x y : A) → Some x ≡ Some y → x ≡ y
-some_is x y e = cc
-
-pub some_of : {A : Type 0} (m : Option A) → is_some m ≡ true → (x : A) × (m ≡ Some x)
-some_of None e = absurd cc
-some_of (Some x) e = (x, refl)
 
 pub if_some : {A : Type 0} (b : Bool) (m : Option A) (y : A) → cond b m None ≡ Some y → (b ≡ true) × (m ≡ Some y)
 if_some true m y e = (refl, e)

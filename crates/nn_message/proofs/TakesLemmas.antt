@@ -1,11 +1,11 @@
 -- What a call that reads exactly so says of each text at the front of the bytes.
 use Rattle.std.proofs.Common.{◌≡◌, ◌^◌, ◌<◌, length, Option, Some, None, refl, sym, ap, subst, ◌∙◌, arith, length-append}
 use Rattle.nn_base.specs.Paths.{Bytes}
+use Rattle.nn_base.proofs.PlainLemmas.{some_is}
 use Rattle.nn_wire.specs.Varint.{varint}
 use Rattle.nn_wire.proofs.SpellingLemmas.{varint_some}
 use Rattle.nn_message.specs.Spelling.{delimited}
 use Rattle.nn_message.specs.Reading.{Read, Reader, Spells, Anywhere, Gives, Shows, Takes}
-use Rattle.nn_message.proofs.SpellsLemmas.{some_is}
 
 pub delimited_some : (message : Bytes) → 0 < length (delimited message)
 unfolding delimited

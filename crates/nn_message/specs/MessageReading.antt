@@ -1,6 +1,6 @@
 -- How each message of an image is read, field by field: the grammar decides, and this says the same as what reading gives.
 use Rattle.std.specs.Prelude.{ℕ, ◌+◌, ◌^◌, Bool, ◌&&◌, ◌||◌, ◌==◌, nat_lt, nat_le, if◌then◌else◌, List, length, None, is_some}
-use Rattle.nn_base.specs.Limits.{most_label, most_nodes, most_blocks_of_file, most_block_length, most_replication}
+use Rattle.nn_base.specs.Limits.{most_label, most_nodes, most_blocks_of_file, most_block_length, most_replication, most_mode}
 use Rattle.nn_base.specs.Paths.{Bytes, is_name}
 use Rattle.nn_tree.specs.declared.node.Block.{Block}
 use Rattle.nn_tree.specs.declared.node.Kind.{Kind}
@@ -55,7 +55,7 @@ unfoldable pub blocks_at : Reader (List Block)
 blocks_at bytes = only (λ blocks. nat_le (length blocks) most_blocks_of_file) (many (has_key 50) block_field_at) bytes
 
 unfoldable pub mode_at : ℕ → Reader ℕ
-mode_at number bytes = only (λ n. nat_le n 1023) (varint_field_at number) bytes
+mode_at number bytes = only (λ n. nat_le n most_mode) (varint_field_at number) bytes
 
 -- the owner, the group and the mode
 unfoldable pub access_at : ℕ → Reader (ℕ × (ℕ × ℕ))

@@ -1,7 +1,7 @@
 -- What the messages of an image hold, and the range of each number in them.
 use Rattle.std.specs.Prelude.{◌≡◌, ◌≢◌, ℕ, ◌^◌, ◌<◌, ◌≤◌, ◌⊎◌, true, List, [], All, Some}
 use Rattle.nn_base.specs.Labels.{IsLabel}
-use Rattle.nn_base.specs.Limits.{most_nodes, IsLong}
+use Rattle.nn_base.specs.Limits.{most_nodes, IsLong, most_mode}
 use Rattle.nn_base.specs.Paths.{Bytes, is_name}
 use Rattle.nn_tree.specs.declared.node.Kind.{Kind}
 use Rattle.nn_message.specs.declared.message.Attributes.{Attributes}
@@ -48,7 +48,7 @@ pub record AreAttributes (a : Attributes) : Type 0 where
   pub time : IsLong a.time
   pub owner : IsVarintNumber a.owner
   pub group : IsVarintNumber a.group
-  pub mode : a.mode ≤ 1023
+  pub mode : a.mode ≤ most_mode
 
 -- Only the root has no name. A name quota, where there is one, lets at least the directory itself be.
 pub record IsInode (inode : Inode) : Type 0 where

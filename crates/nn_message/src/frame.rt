@@ -2,6 +2,7 @@
 ghost use Rattle.std.specs.Prelude.{◌≡◌, ◌≢◌, ◌<◌, ◌≤◌, ◌^◌, ◌++◌, length, IfSome, IfNone};
 ghost use Rattle.std.specs.Int.{w32, to_be_bytes};
 ghost use Rattle.nn_base.specs.Paths.{Bytes};
+ghost use Rattle.nn_base.specs.Limits.{most_image};
 ghost use Rattle.nn_message.specs.Spelling.{delimited};
 ghost use Rattle.nn_message.specs.Frame.{end};
 
@@ -42,7 +43,7 @@ fn undelimited(bytes: &[u8]) -> Option<&[u8]>
 /// `FSImageUtil.loadSummary` has it.
 #[tactic(auto, unfolding(crate::specs::Frame::end))]
 pub fn unended(bytes: &[u8]) -> Option<Framed>
-    requires { length bytes.now ≤ 2 ^ 30 }
+    requires { length bytes.now ≤ most_image }
     ensures some { IfSome result (λ f. bytes.now ≡ f.text.now ++ end f.summary.now) }
     ensures none { IfNone result ((text summary : Bytes) → bytes.now ≢ text ++ end summary) }
 {

@@ -1,6 +1,7 @@
 // The four sections of an image, cut out of its text as its summary says.
 ghost use Rattle.std.specs.Prelude.{◌≡◌, ◌≢◌, ◌≤◌, ◌^◌, ◌++◌, length, IfSome, IfNone};
 ghost use Rattle.nn_base.specs.Paths.{Bytes};
+ghost use Rattle.nn_base.specs.Limits.{most_image};
 ghost use Rattle.nn_wire.specs.Field.{bytes_field};
 ghost use Rattle.nn_message.specs.Frame.{Sections, section_message, sections_field, places, named, lengths_of, body};
 ghost use Rattle.nn_message.specs.FrameViews.{sections_seen};
@@ -51,7 +52,7 @@ fn take_section<'a>(
 /// The sections that fill the text, where these are the places of just these: NS_INFO, STRING_TABLE, INODE and INODE_DIR,
 /// each from where the one before it ends. The first begins at 8, behind the mark of the file.
 pub fn cut_sections<'a>(text: &'a [u8], fields: &[u8]) -> Option<SectionBytes<'a>>
-    requires { length text.now ≤ 2 ^ 30 }
+    requires { length text.now ≤ most_image }
     ensures some { IfSome result (λ s. (text.now ≡ body (sections_seen s)) × (fields.now ≡ sections_field (places 8 (named (lengths_of (sections_seen s)))))) }
     ensures none { IfNone result ((s : Sections) → text.now ≡ body s → fields.now ≢ sections_field (places 8 (named (lengths_of s)))) }
 {

@@ -28,6 +28,7 @@ use Rattle.nn_ops.specs.Above.{parent_of, is_above, has_room, has_room_but, one_
 use Rattle.nn_ops.specs.Bounds.{is_full, is_full_at, is_bad_replication, is_bad_length, is_zero, is_short, moves_short}
 use Rattle.nn_ops.specs.Changes.{IsChange}
 use Rattle.nn_base.specs.First.{when, first_of}
+use Rattle.nn_base.specs.Limits.{most_levels, most_path, IsLong}
 use Rattle.nn_ops.specs.Refusals.{Test, walk}
 use Rattle.nn_ops.specs.Commands.{free_tests, room_tests, node_tests, file_tests, open_tests, replication_at, growth_at, is_root}
 use Rattle.nn_ops.specs.Effects.{change, touch, put_node, new_node, effect}
@@ -112,7 +113,7 @@ change_imaged : (ns : Namespace) (p : Names) (new : Change) → IsChange new →
 change_imaged ns p new ok sets h =
     imaged_change ns p (changed new) h (record { id = id_kept new; dir = λ x. (kind_kept new x).dir; blocks = λ x. (kind_kept new x).blocks }) (sets_quota new sets) (limits_changed ns.nodes p new h.limits ok)
 
-touch_imaged : (ns : Namespace) (p : Names) (time : ℕ) → time < 2 ^ 63 → IsImaged ns → IsImaged (with_nodes ns (touch p time ns.nodes))
+touch_imaged : (ns : Namespace) (p : Names) (time : ℕ) → IsLong time → IsImaged ns → IsImaged (with_nodes ns (touch p time ns.nodes))
 touch_imaged ns p time ok h = change_imaged ns p (Time time) ok tt h
 
 -- ---- a node more
@@ -139,7 +140,7 @@ some_there : (o : Option Node) → is_none o ≡ false → (x : Node) × (o ≡ 
 some_there None h = cc
 some_there (Some x) h = (x, refl)
 
-block_imaged : (ns : Namespace) (path : Names) (id stamp len : ℕ) → id < 2 ^ 63 → stamp < 2 ^ 63 → id ≡ ns.counters.block + 1 → stamp ≡ ns.counters.stamp + 1
+block_imaged : (ns : Namespace) (path : Names) (id stamp len : ℕ) → IsLong id → IsLong stamp → id ≡ ns.counters.block + 1 → stamp ≡ ns.counters.stamp + 1
     → first_of (open_tests ns.nodes path ++ (when (is_bad_length len) Limit ∷ when (is_full_at ns path) Limit ∷ when (not (has_room ns.nodes (bytes_more (replication_at ns.nodes path * len)) path)) OverQuota ∷ [])) ≡ None
     → IsImaged ns → IsImaged (effect (AddBlock path id stamp len) ns)
 block_imaged ns path id stamp len i s next next_stamp passed h =
@@ -157,7 +158,7 @@ block_imaged ns path id stamp len i s next next_stamp passed h =
 -- ---- a node moves
 
 short_is : (p : Names) → is_short p ≡ true → IsShort p
-short_is p h = let both = and_parts _ _ h in record { levels = leb-true (length p) 1000 both.0; size = leb-true (length (joined p)) 8000 both.1 }
+short_is p h = let both = and_parts _ _ h in record { levels = leb-true (length p) most_levels both.0; size = leb-true (length (joined p)) most_path both.1 }
 
 short_moved : (m : Nodes) (s d : Names) → moves_short m s d ≡ true → (r : Names) (x : Node) → get m r ≡ Some x → is_under s r ≡ true → IsShort (moved s d r)
 short_moved m s d h r x is under = by (is_short (moved s d r)) refl
@@ -169,7 +170,7 @@ short_moved m s d h r x is under = by (is_short (moved s d r)) refl
         let z : false ≡ true = sym long ∙ h in
         cc
 
-move_imaged : (ns : Namespace) (from to : Names) (time : ℕ) → Fits ns (RenameOld from to time) → time < 2 ^ 63 → IsPath to → IsImaged ns → IsImaged (effect (RenameOld from to time) ns)
+move_imaged : (ns : Namespace) (from to : Names) (time : ℕ) → Fits ns (RenameOld from to time) → IsLong time → IsPath to → IsImaged ns → IsImaged (effect (RenameOld from to time) ns)
 move_imaged ns from to time fits ok path h =
     let m = ns.nodes in
     let room : List Test = when (not (has_room_but m (λ q. is_above q from) (usage_of m from) to)) OverQuota ∷ [] in

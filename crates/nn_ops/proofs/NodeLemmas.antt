@@ -20,6 +20,7 @@ use Rattle.nn_tree.proofs.LimitsLemmas.{limits_insert, limits_time, limits_chang
 use Rattle.nn_tree.proofs.PlainClauses.{blocks_changed}
 use Rattle.nn_ops.specs.declared.refusal.OpRefusal.TheVariants.{Exists}
 use Rattle.nn_base.specs.First.{first_of, when}
+use Rattle.nn_base.specs.Limits.{most_nodes, most_blocks, most_blocks_of_file, most_replication, IsLong}
 use Rattle.nn_ops.specs.Refusals.{walk, refusal_by}
 use Rattle.nn_ops.specs.Commands.{free_tests}
 use Rattle.nn_ops.specs.Bounds.{blocks_at}
@@ -30,7 +31,7 @@ use Rattle.nn_ops.proofs.RefusalLemmas.{first_passed, rest_passed}
 use Rattle.nn_ops.proofs.WalkLemmas.{parent_of_push, dir_above}
 
 -- where there is no node, nothing changes
-pub limits_touch : (m : Nodes) (p : Names) (time : ℕ) → IsWithinLimits m → time < 2 ^ 63 → IsWithinLimits (touch p time m)
+pub limits_touch : (m : Nodes) (p : Names) (time : ℕ) → IsWithinLimits m → IsLong time → IsWithinLimits (touch p time m)
 limits_touch m p time h ok = by (get m p) refl
   where
     by : (o : Option Node) → get m p ≡ o → IsWithinLimits (touch p time m)
@@ -38,11 +39,11 @@ limits_touch m p time h ok = by (get m p) refl
     by None is = subst IsWithinLimits (sym (ap (λ (o : Option Node). elim o as (λ _. Nodes) [ None ↦ m | Some node ↦ insert m p (record node { time = time }) ]) is)) h
 
 -- a node more, without blocks
-pub limits_new : (m : Nodes) (p : Names) (node : Node) → IsWithinLimits m → get m p ≡ None → IsNode node → blocks_of node.kind ≡ [] → node_count m < 1048576 → IsWithinLimits (insert m p node)
+pub limits_new : (m : Nodes) (p : Names) (node : Node) → IsWithinLimits m → get m p ≡ None → IsNode node → blocks_of node.kind ≡ [] → node_count m < most_nodes → IsWithinLimits (insert m p node)
 limits_new m p node h free ok empty few =
     let most = h.blocks in
     let none : length (blocks_of node.kind) ≡ 0 = ap length empty in
-    let blocks : block_count m + length (blocks_of node.kind) ≤ 8388608 = omega arith in
+    let blocks : block_count m + length (blocks_of node.kind) ≤ most_blocks = omega arith in
     limits_insert m p node h free ok few blocks
 
 -- ---- a new node
@@ -77,13 +78,13 @@ quota_kind quota (Dir old) h ok = record {
   replicated = λ r is. cc;
   few = h.few;
   blocks = h.blocks;
-  names = for_some (λ n. n < 2 ^ 63) quota.names ok.0;
-  space = for_some (λ n. n < 2 ^ 63) quota.space ok.1;
+  names = for_some IsLong quota.names ok.0;
+  space = for_some IsLong quota.space ok.1;
 }
 
-replication_kind : (replication : ℕ) (kind : Kind) → IsKind kind → 0 < replication → replication ≤ 512 → IsKind (with_replication replication kind)
+replication_kind : (replication : ℕ) (kind : Kind) → IsKind kind → 0 < replication → replication ≤ most_replication → IsKind (with_replication replication kind)
 replication_kind replication (File old is_open blocks) h some few = record {
-  replicated = for_some (λ r. (0 < r) × (r ≤ 512)) (Some replication) (some, few);
+  replicated = for_some (λ r. (0 < r) × (r ≤ most_replication)) (Some replication) (some, few);
   few = h.few;
   blocks = h.blocks;
   names = h.names;
@@ -110,14 +111,14 @@ limits_changed m p new h ok = by (get m p) refl
     by (Some node) is =
         let same = blocks_changed new node in
         let most = h.blocks in
-        let blocks : block_count m + length (blocks_of (changed new node).kind) ≤ 8388608 + length (blocks_of node.kind) = omega arith in
+        let blocks : block_count m + length (blocks_of (changed new node).kind) ≤ most_blocks + length (blocks_of node.kind) = omega arith in
         limits_change_at m p (changed new) node h is (changed_node new node (h.each p node is) ok) blocks
     by None is = subst IsWithinLimits (sym (ap (λ (o : Option Node). elim o as (λ _. Nodes) [ None ↦ m | Some node ↦ insert m p (changed new node) ]) is)) h
 
 -- ---- a block more
 
-pub limits_added : (m : Nodes) (p : Names) (block : Block) (node : Node) → IsWithinLimits m → get m p ≡ Some node → IsBlock block → blocks_at m p < 10000 → block_count m < 8388608 → IsWithinLimits (change_at p (with_block block) m)
+pub limits_added : (m : Nodes) (p : Names) (block : Block) (node : Node) → IsWithinLimits m → get m p ≡ Some node → IsBlock block → blocks_at m p < most_blocks_of_file → block_count m < most_blocks → IsWithinLimits (change_at p (with_block block) m)
 limits_added m p block node h is ok few room =
     let same : blocks_at m p ≡ length (blocks_of node.kind) = ap (λ (o : Option Node). option_map_or (λ node. length (blocks_of node.kind)) o 0) is in
-    let few : length (blocks_of node.kind) < 10000 = omega arith in
+    let few : length (blocks_of node.kind) < most_blocks_of_file = omega arith in
     limits_block m p block node h is ok few room

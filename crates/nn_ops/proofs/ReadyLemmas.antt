@@ -12,6 +12,7 @@ use Rattle.nn_record.specs.declared.op.Op.{Op}
 use Rattle.nn_record.specs.declared.op.Op.TheVariants.{Add, RenameOld, Delete, Mkdir, SetReplication, SetPermissions, SetOwner, Close, SetQuota, EndLogSegment, StartLogSegment, AddBlock}
 use Rattle.nn_ops.specs.declared.plan.Target.TheVariants.{New, Move}
 use Rattle.nn_base.specs.First.{when, first_of}
+use Rattle.nn_base.specs.Limits.{most_replication}
 use Rattle.nn_ops.specs.Refusals.{Test}
 use Rattle.nn_ops.specs.Commands.{free_tests, room_tests, node_tests, is_root}
 use Rattle.nn_ops.specs.Above.{is_above, has_room, has_room_but, one_name}
@@ -30,9 +31,9 @@ use Rattle.nn_ops.proofs.NodeLemmas.{for_some}
 pub dir_kind : IsKind (Dir no_quota)
 dir_kind = record { replicated = λ r is. cc; few = omega arith; blocks = λ k d lt. absurd (omega arith); names = λ n is. cc; space = λ n is. cc }
 
-pub file_kind : (r : ℕ) → 0 < r → r ≤ 512 → IsKind (File r true [])
+pub file_kind : (r : ℕ) → 0 < r → r ≤ most_replication → IsKind (File r true [])
 file_kind r some few = record {
-  replicated = for_some (λ r. (0 < r) × (r ≤ 512)) (Some r) (some, few);
+  replicated = for_some (λ r. (0 < r) × (r ≤ most_replication)) (Some r) (some, few);
   few = omega arith;
   blocks = λ k d lt. absurd (omega arith);
   names = λ n is. cc;

@@ -9,6 +9,7 @@ use Rattle.std.proofs.Math.Seq.{append_snoc}
 use Rattle.std.proofs.lemmas.Bool.Decides.{nat_tests}
 use Rattle.std.specs.Prelude.{nat_le}
 use Rattle.nn_base.specs.Paths.{Names, Bytes, is_under, joined, name_cmp, path_cmp}
+use Rattle.nn_base.specs.Limits.{most_levels, most_path}
 use Rattle.nn_base.proofs.PlainLemmas.{is_less}
 use Rattle.nn_tree.specs.declared.spot.Spot.{Spot}
 use Rattle.nn_tree.specs.declared.node.Node.{Node}
@@ -28,15 +29,15 @@ pub short_step : (levels size : ℕ) (name : Bytes) (rest : Names) → is_short_
 short_step levels size name rest =
     let a : levels + length (name ∷ rest) ≡ levels + 1 + length rest = omega arith in
     let b : size + length (joined (name ∷ rest)) ≡ size + 1 + length name + length (joined rest) = omega (arith, length-append name (joined rest)) in
-    λ i. nat_le (a i) 1000 && nat_le (b i) 8000
+    λ i. nat_le (a i) most_levels && nat_le (b i) most_path
 
-pub short_here : (levels size : ℕ) → levels ≤ 1000 → size ≤ 8000 → is_short_by levels size [] ≡ true
+pub short_here : (levels size : ℕ) → levels ≤ most_levels → size ≤ most_path → is_short_by levels size [] ≡ true
 short_here levels size l s = grind (arith, nat_tests)
 
-pub too_deep : (levels size : ℕ) (name : Bytes) → levels ≡ 1000 → is_short_by levels size (name ∷ []) ≡ false
+pub too_deep : (levels size : ℕ) (name : Bytes) → levels ≡ most_levels → is_short_by levels size (name ∷ []) ≡ false
 too_deep levels size name l = grind (arith, nat_tests)
 
-pub too_long : (levels size : ℕ) (name : Bytes) → 8000 < size + 1 + length name → is_short_by levels size (name ∷ []) ≡ false
+pub too_long : (levels size : ℕ) (name : Bytes) → most_path < size + 1 + length name → is_short_by levels size (name ∷ []) ≡ false
 too_long levels size name s = short_step levels size name [] ∙ grind (arith, nat_tests)
 
 -- ---- the order of children
@@ -102,7 +103,7 @@ module _ (m : Nodes) (sound : IsNamespace m) (p : Names) (levels size : ℕ) (pl
     went_on has None h = λ name rest there. up_to name rest there (λ above. no_between has x None h name rest there above tt)
     went_on has (Some s) h = λ name rest there before. up_to name rest there (λ above. no_between has x (Some s) h name rest there above before)
 
-  pub all_done : levels ≤ 1000 → size ≤ 8000 → SoFar m p levels size place None → TellsShort true m p levels size
+  pub all_done : levels ≤ most_levels → size ≤ most_path → SoFar m p levels size place None → TellsShort true m p levels size
   all_done l s done [] there = short_here levels size l s
   all_done l s done (name ∷ rest) there = done name rest there
 
@@ -142,7 +143,7 @@ joined_append [] r = omega arith
 joined_append (x ∷ d) r = omega (arith, length-append x (joined (d ++ r)), length-append x (joined d), joined_append d r)
 
 short_moved : (d rest : Names) → is_short (d ++ rest) ≡ is_short_by (length d) (length (joined d)) rest
-short_moved d rest = λ i. nat_le (length-append d rest i) 1000 && nat_le (joined_append d rest i) 8000
+short_moved d rest = λ i. nat_le (length-append d rest i) most_levels && nat_le (joined_append d rest i) most_path
 
 moved_append : (s d rest : Names) → moved s d (s ++ rest) ≡ d ++ rest
 moved_append s d rest = moved_in s d (s ++ rest) (under_front s rest) ∙ ap (λ r. d ++ r) (drop_front s rest)

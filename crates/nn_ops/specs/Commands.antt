@@ -14,11 +14,12 @@ use Rattle.nn_ops.specs.Above.{is_above, has_room, has_room_but, one_name, bytes
 use Rattle.nn_ops.specs.Bounds.{is_full, is_full_at, is_bad_replication, is_bad_length, is_zero, moves_short}
 use Rattle.nn_quota.specs.Quotas.{IsQuota}
 use Rattle.nn_base.specs.First.{when}
+use Rattle.nn_base.specs.Limits.{most_mode}
 use Rattle.nn_ops.specs.Refusals.{Test, walk}
 
--- the ranges of the numbers in a command: a mode is at most 1777 (octal), a quota below 2^63
+-- the ranges of the numbers in a command that no test of it asks about
 abbrev pub IsCommand : Command → Type 0
-IsCommand (Chmod path mode) = mode ≤ 1023
+IsCommand (Chmod path mode) = mode ≤ most_mode
 IsCommand (SetQuota path quota) = IsQuota quota
 IsCommand (Mkdir path) = Unit {0}
 IsCommand (Create path replication) = Unit {0}

@@ -20,6 +20,7 @@ use Rattle.nn_ops.specs.declared.plan.Target.TheVariants.{New, At, Move}
 use Rattle.nn_ops.specs.Bounds.{blocks_at}
 use Rattle.nn_ops.specs.Changes.{IsChange}
 use Rattle.nn_base.specs.First.{first_of}
+use Rattle.nn_base.specs.Limits.{most_nodes, most_blocks, most_blocks_of_file}
 use Rattle.nn_ops.specs.Commands.{free_tests}
 use Rattle.nn_ops.specs.Effects.{new_node}
 use Rattle.nn_ops.specs.Step.{Fits}
@@ -94,7 +95,7 @@ pub record IsReady (plan : Plan) (has : Spot → Bool) (place : Spot → Names) 
 pub record CanPut (parent : Spot) (name : Bytes) (node : Node) (has : Spot → Bool) (place : Spot → Names) (spare : Spare) (ns : Namespace) : Type 0 where
   pub there : has parent ≡ true
   pub free : first_of (free_tests ns.nodes (place parent ++ name ∷ [])) ≡ None
-  pub few : node_count ns.nodes < 1048576
+  pub few : node_count ns.nodes < most_nodes
   pub bounds : IsNode node
   pub empty : blocks_of node.kind ≡ []
   pub room : spare.node ≡ true
@@ -110,8 +111,8 @@ pub record CanAdd (at : Spot) (block : Block) (has : Spot → Bool) (place : Spo
   pub there : has at ≡ true
   pub file : is_file_at ns.nodes (place at) ≡ true
   pub bounds : IsBlock block
-  pub few : blocks_at ns.nodes (place at) < 10000
-  pub few_in_all : block_count ns.nodes < 8388608
+  pub few : blocks_at ns.nodes (place at) < most_blocks_of_file
+  pub few_in_all : block_count ns.nodes < most_blocks
   pub room : spare.block at ≡ true
 
 -- a node may be moved into a directory

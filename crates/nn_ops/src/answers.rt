@@ -1,5 +1,6 @@
 // The answer to a command, before anything is done.
 ghost use Rattle.std.specs.Prelude.{◌≡◌, ◌≢◌, ◌<◌, ◌^◌, IfOk, IfErr, OnOk, None, Some};
+ghost use Rattle.nn_base.specs.Limits.{IsLong};
 ghost use Rattle.nn_ops.specs.Bodies.{op_of};
 ghost use Rattle.nn_ops.specs.Commands.{IsCommand};
 ghost use Rattle.nn_ops.specs.Plans.{IsReady};
@@ -23,7 +24,7 @@ pub fn prepare<T: Tree>(
     now: u64,
 ) -> Result<Plan, OpRefusal>
     requires command { IsCommand command.now }
-    requires now { now < 2 ^ 63 }
+    requires now { IsLong now }
     ensures ok { OnOk result (refusal_of (T.meaning tree.old) command.now ≡ None) }
     ensures body { IfOk result (λ plan. plan.op ≡ op_of (T.meaning tree.old) command.now now) }
     ensures ready { IfOk result (λ plan. IsReady plan (T.has tree.new) (T.place tree.new) (T.spare tree.new) (T.meaning tree.new)) }

@@ -1,5 +1,6 @@
 // The commands that change the attributes of a node: `chmod`, `chown`, `quota` and `setrep`.
 ghost use Rattle.std.specs.Prelude.{◌≡◌, ◌≢◌, ◌<◌, ◌≤◌, ◌-◌, ◌*◌, IfOk, IfErr, Some};
+ghost use Rattle.nn_base.specs.Limits.{most_mode, most_replication};
 ghost use Rattle.nn_tree.specs.Limits.{IsKind};
 ghost use Rattle.nn_tree.specs.Nodes.{blocks_of, length_of, space_of};
 ghost use Rattle.nn_ops.specs.Bounds.{is_zero};
@@ -27,7 +28,7 @@ pub(crate) fn prepare_chmod<T: Tree>(
     path: &Path,
     mode: u16,
 ) -> Result<Plan, OpRefusal>
-    requires { mode ≤ 1023 }
+    requires { mode ≤ most_mode }
     ensures body { IfOk result (λ plan. plan.op ≡ Op.SetPermissions path.now mode) }
     ensures ready { IfOk result (λ plan. IsReady plan (T.has tree.now) (T.place tree.now) (T.spare tree.now) (T.meaning tree.now)) }
     ensures err { IfErr result (λ r. r ≢ OpRefusal.Memory → refusal_of (T.meaning tree.now) (Command.Chmod path.now mode) ≡ Some r) }
@@ -99,7 +100,7 @@ fn is_zero(names: Option<u64>) -> bool
 /// The bytes that a node takes more with another replication.
 fn growth(kind: &Kind, replication: u64) -> u128
     requires kind { IsKind kind.now }
-    requires few { replication ≤ 512 }
+    requires few { replication ≤ most_replication }
     ensures { result ≡ replication * length_of (blocks_of kind.now) - space_of kind.now }
 {
     let space = u128::from(kind.space());

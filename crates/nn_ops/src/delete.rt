@@ -1,5 +1,6 @@
 // The command `delete`.
 ghost use Rattle.std.specs.Prelude.{◌≡◌, ◌≢◌, ◌<◌, ◌^◌, IfOk, IfErr, Some};
+ghost use Rattle.nn_base.specs.Limits.{IsLong};
 ghost use Rattle.nn_ops.specs.Bodies.{op_of};
 ghost use Rattle.nn_ops.specs.Plans.{IsReady};
 ghost use Rattle.nn_ops.specs.Step.{refusal_of};
@@ -21,7 +22,7 @@ pub(crate) fn prepare_delete<T: Tree>(
     path: &Path,
     now: u64,
 ) -> Result<Plan, OpRefusal>
-    requires { now < 2 ^ 63 }
+    requires { IsLong now }
     ensures body { IfOk result (λ plan. plan.op ≡ op_of (T.meaning tree.now) (Command.Delete path.now) now) }
     ensures ready { IfOk result (λ plan. IsReady plan (T.has tree.now) (T.place tree.now) (T.spare tree.now) (T.meaning tree.now)) }
     ensures err { IfErr result (λ r. r ≢ OpRefusal.Memory → refusal_of (T.meaning tree.now) (Command.Delete path.now) ≡ Some r) }

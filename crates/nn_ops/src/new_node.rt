@@ -1,5 +1,6 @@
 // The commands that make a node: `mkdir` and `create`.
 ghost use Rattle.std.specs.Prelude.{◌≡◌, ◌≢◌, ◌<◌, ◌≤◌, ◌+◌, ◌^◌, ◌∷◌, ◌++◌, [], true, IfOk, IfErr, OnOk, None, Some};
+ghost use Rattle.nn_base.specs.Limits.{IsLong};
 ghost use Rattle.nn_tree.specs.Namespace.{hdfs};
 ghost use Rattle.nn_tree.specs.Nodes.{no_quota};
 ghost use Rattle.nn_ops.specs.Bodies.{op_of};
@@ -36,7 +37,7 @@ pub(crate) fn prepare_mkdir<T: Tree>(
     path: &Path,
     now: u64,
 ) -> Result<Plan, OpRefusal>
-    requires { now < 2 ^ 63 }
+    requires { IsLong now }
     ensures body { IfOk result (λ plan. plan.op ≡ op_of (T.meaning tree.old) (Command.Mkdir path.now) now) }
     ensures ready { IfOk result (λ plan. IsReady plan (T.has tree.new) (T.place tree.new) (T.spare tree.new) (T.meaning tree.new)) }
     ensures err { IfErr result (λ r. r ≢ OpRefusal.Memory → refusal_of (T.meaning tree.old) (Command.Mkdir path.now) ≡ Some r) }
@@ -107,7 +108,7 @@ pub(crate) fn prepare_create<T: Tree>(
     replication: u64,
     now: u64,
 ) -> Result<Plan, OpRefusal>
-    requires { now < 2 ^ 63 }
+    requires { IsLong now }
     ensures body { IfOk result (λ plan. plan.op ≡ op_of (T.meaning tree.old) (Command.Create path.now replication) now) }
     ensures ready { IfOk result (λ plan. IsReady plan (T.has tree.new) (T.place tree.new) (T.spare tree.new) (T.meaning tree.new)) }
     ensures err { IfErr result (λ r. r ≢ OpRefusal.Memory → refusal_of (T.meaning tree.old) (Command.Create path.now replication) ≡ Some r) }

@@ -8,6 +8,7 @@ ghost use Rattle.nn_ops.specs.Bounds.{moves_short, TellsShort};
 ghost use Rattle.nn_ops.specs.Commands.{moved_tests};
 ghost use Rattle.nn_ops.specs.Plans.{IsReady};
 ghost use Rattle.nn_base.specs.First.{first_of};
+ghost use Rattle.nn_base.specs.Limits.{most_levels, most_path, IsLong};
 ghost use Rattle.nn_ops.specs.Step.{refusal_of};
 ghost use Rattle.nn_ops.specs.declared.command.Command.{Command};
 
@@ -62,7 +63,7 @@ fn moved_node<T: Tree>(tree: &T, from: &Path, to: &Path) -> Result<Spot, OpRefus
 /// The bytes of a path's text, but 0 for the root.
 fn text_size(path: &Path) -> usize
     ensures size { result ≡ length (joined path.now) }
-    ensures few { result ≤ 8000 }
+    ensures few { result ≤ most_path }
 {
     let mut size = 0;
     for k in 0..path.depth() {
@@ -74,8 +75,8 @@ fn text_size(path: &Path) -> usize
 /// Whether all below a node get paths that are short enough, where its own new path has so many levels and bytes.
 fn below_is_short<T: Tree>(tree: &T, at: Spot, levels: usize, size: usize) -> bool
     requires there { T.has tree.now at ≡ true }
-    requires levels { levels ≤ 1000 }
-    requires size { size ≤ 8000 }
+    requires levels { levels ≤ most_levels }
+    requires size { size ≤ most_path }
     ensures { TellsShort result (T.meaning tree.now).nodes (T.place tree.now at) levels size }
 {
     let _counters = tree.counters();
@@ -139,7 +140,7 @@ pub(crate) fn prepare_rename<T: Tree>(
     to: &Path,
     now: u64,
 ) -> Result<Plan, OpRefusal>
-    requires { now < 2 ^ 63 }
+    requires { IsLong now }
     ensures body { IfOk result (λ plan. plan.op ≡ op_of (T.meaning tree.now) (Command.Rename from.now to.now) now) }
     ensures ready { IfOk result (λ plan. IsReady plan (T.has tree.now) (T.place tree.now) (T.spare tree.now) (T.meaning tree.now)) }
     ensures err { IfErr result (λ r. r ≢ OpRefusal.Memory → refusal_of (T.meaning tree.now) (Command.Rename from.now to.now) ≡ Some r) }

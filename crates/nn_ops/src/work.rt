@@ -1,5 +1,6 @@
 // The single works that commands are made of.
 ghost use Rattle.std.specs.Prelude.{◌≡◌, ◌≢◌, ◌<◌, ◌^◌, ◌∷◌, ◌++◌, [], true};
+ghost use Rattle.nn_base.specs.Limits.{IsLong};
 ghost use Rattle.nn_tree.specs.Changes.{with_nodes, change_at, with_block, cut, move};
 ghost use Rattle.nn_ops.specs.Above.{parent_of};
 ghost use Rattle.nn_ops.specs.Effects.{put_node, change, touch};
@@ -55,7 +56,7 @@ pub(crate) fn add_block<T: Tree>(tree: &mut T, at: Spot, block: Block)
 pub(crate) fn remove_node<T: Tree>(tree: &mut T, at: Spot, time: u64)
     requires there { T.has tree.old at ≡ true }
     requires below_root { T.place tree.old at ≢ [] }
-    requires time { time < 2 ^ 63 }
+    requires time { IsLong time }
     ensures { T.meaning tree.new ≡ with_nodes (T.meaning tree.old) (touch (parent_of (T.place tree.old at)) time (cut (T.place tree.old at) (T.meaning tree.old).nodes)) }
 {
     match tree.parent(at) {
@@ -70,7 +71,7 @@ pub(crate) fn remove_node<T: Tree>(tree: &mut T, at: Spot, time: u64)
 /// Moves a node, with all below it, and sets the times of both directories.
 pub(crate) fn move_node<T: Tree>(tree: &mut T, at: Spot, parent: Spot, name: Name, time: u64)
     requires can { CanMove at parent name (T.has tree.old) (T.place tree.old) (T.meaning tree.old) }
-    requires time { time < 2 ^ 63 }
+    requires time { IsLong time }
     ensures { T.meaning tree.new ≡ with_nodes (T.meaning tree.old) (touch (T.place tree.old parent) time (touch (parent_of (T.place tree.old at)) time (move (T.place tree.old at) (T.place tree.old parent ++ name ∷ []) (T.meaning tree.old).nodes))) }
 {
     match tree.parent(at) {

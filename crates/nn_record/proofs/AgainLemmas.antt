@@ -6,7 +6,7 @@ use Rattle.std.proofs.lemmas.Bool.{le-ltb, lt-ltb, le-leb}
 use Rattle.std.proofs.lemmas.List.{take_at, drop_at}
 use Rattle.std.proofs.lemmas.Nat.{from_be_bytes-to_be_bytes_2, from_be_bytes-to_be_bytes_4, from_be_bytes-to_be_bytes_8}
 use Rattle.nn_base.specs.Paths.{Names, IsPath, text_of}
-use Rattle.nn_base.specs.Limits.{IsLong}
+use Rattle.nn_base.specs.Limits.{IsLong, most_label, most_mode}
 use Rattle.nn_base.specs.Labels.{IsLabel}
 use Rattle.nn_record.specs.Ops.{IsMode}
 use Rattle.nn_record.specs.Spelling.{u16, u32, u64, path, name, bound}
@@ -43,7 +43,7 @@ long_again n rest small = rw (u64_again n rest (omega arith), lt-ltb n (2 ^ 63) 
 
 pub mode_again : (n : ℕ) (rest : List ℕ) → IsMode n → mode_at (u16 n ++ rest) ≡ Some (n, rest)
 unfolding mode_at
-mode_again n rest small = rw (u16_again n rest (omega arith), le-leb n 1023 small) refl
+mode_again n rest small = rw (u16_again n rest (omega arith), le-leb n most_mode small) refl
 
 pub path_again : (names : Names) (rest : List ℕ) → IsPath names → path_at (path names ++ rest) ≡ Some (names, rest)
 unfolding path_at path
@@ -53,7 +53,7 @@ path_again names rest is =
 
 pub name_again : (label rest : List ℕ) → IsLabel label → name_at (name label ++ rest) ≡ Some (label, rest)
 unfolding name_at byte_at name
-name_again label rest is = rw (text_again label rest (length label) refl, le-leb 1 (length label) is.0, le-leb (length label) 32 is.1) refl
+name_again label rest is = rw (text_again label rest (length label) refl, le-leb 1 (length label) is.0, le-leb (length label) most_label is.1) refl
 
 pub bound_again : (most : Option ℕ) (rest : List ℕ) → IfSome most IsLong → bound_at (bound most ++ rest) ≡ Some (most, rest)
 unfolding bound_at bound

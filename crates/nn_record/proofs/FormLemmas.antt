@@ -1,5 +1,5 @@
 -- A record within its bounds is short, and its parts are put together.
-use Rattle.std.proofs.Common.{◌≡◌, ℕ, ◌+◌, ◌-◌, ◌^◌, ◌<◌, ◌≤◌, List, [], ◌∷◌, ◌++◌, length, take, drop, Option, Some, None, refl, sym, ap, ◌∙◌, append_assoc, arith, length-append}
+use Rattle.std.proofs.Common.{◌≡◌, ℕ, ◌+◌, ◌-◌, ◌^◌, ◌<◌, ◌≤◌, List, [], ◌∷◌, ◌++◌, length, take, drop, Option, Some, None, refl, sym, ap, ◌∙◌, append_assoc, arith, length-append, ◌*◌}
 use Rattle.std.proofs.lemmas.List.{take_at, drop_at, append-nil}
 use Rattle.nn_base.specs.Paths.{Names, IsPath, text_of}
 use Rattle.nn_wire.specs.Crc32.{crc32_of}
@@ -7,6 +7,7 @@ use Rattle.nn_record.specs.declared.op.Op.{Op}
 use Rattle.nn_record.specs.declared.op.Op.TheVariants.{Add, RenameOld, Delete, Mkdir, SetReplication, SetPermissions, SetOwner, Close, SetQuota, EndLogSegment, StartLogSegment, AddBlock}
 use Rattle.nn_record.specs.declared.transaction.Record.{Record}
 use Rattle.nn_base.specs.Labels.{IsLabel}
+use Rattle.nn_base.specs.Limits.{IsLong, most_path}
 use Rattle.nn_record.specs.Ops.{IsOp, IsHeld}
 use Rattle.nn_record.specs.Spelling.{u16, u32, u64, path, name, bound, body_bytes, unsealed, sealed, IsRecord}
 use Rattle.nn_record.proofs.FrameLemmas.{length-u32, length-u64}
@@ -19,7 +20,7 @@ length-u16 : (n : ℕ) → length (u16 n) ≡ 2
 unfolding u16
 length-u16 n = refl
 
-path_small : (names : Names) → IsPath names → length (path names) ≤ 8002
+path_small : (names : Names) → IsPath names → length (path names) ≤ most_path + 2
 unfolding path
 path_small names is = omega (arith, length-append (u16 (length (text_of names))) (text_of names), length-u16 (length (text_of names)), text_small names is)
 
@@ -45,7 +46,7 @@ eight n = omega (arith, length-u64 n)
 eight_bound : (most : Option ℕ) → length (bound most) ≤ 8
 eight_bound most = omega (arith, length-bound most)
 
-pub body_small : (op : Op) → IsHeld op → length (body_bytes op) ≤ 17000
+pub body_small : (op : Op) → IsHeld op → length (body_bytes op) ≤ 2 * most_path + 1000
 unfolding body_bytes
 body_small (Add inode p replication time owner group mode) is = omega (arith, longer _ _ _ _ (longer _ _ _ _ (longer _ _ _ _ (longer _ _ _ _ (longer _ _ _ _ (longer _ _ _ _ (eight inode) (path_small p is.0)) (two replication)) (eight time)) (name_small owner is.1)) (name_small group is.2)) (two mode))
 body_small (RenameOld old new time) is = omega (arith, longer _ _ _ _ (longer _ _ _ _ (path_small old is.0) (path_small new is.1)) (eight time))
@@ -61,7 +62,7 @@ body_small StartLogSegment is = omega arith
 body_small (AddBlock p id stamp size) is = omega (arith, longer _ _ _ _ (longer _ _ _ _ (longer _ _ _ _ (path_small p is.0) (eight id)) (eight stamp)) (eight size))
 
 -- so the longest record is far below its limit
-pub is_record : (r : Record) → 1 ≤ r.id → r.id < 2 ^ 63 → IsOp r.op → IsHeld r.op → IsRecord r
+pub is_record : (r : Record) → 1 ≤ r.id → IsLong r.id → IsOp r.op → IsHeld r.op → IsRecord r
 is_record r first last op held = record { first = first; last = last; op = op; held = held; size = omega (arith, length-spelling r, body_small r.op held) }
 
 -- ---- written over, and put together

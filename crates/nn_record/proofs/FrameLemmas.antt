@@ -1,6 +1,7 @@
 -- The parts of a record make its text.
 use Rattle.std.proofs.Common.{◌≡◌, ℕ, ◌+◌, ◌-◌, ◌^◌, ◌<◌, ◌≤◌, List, ◌∷◌, ◌++◌, length, take, refl, sym, ap, subst, ◌∙◌, append_assoc, arith, length-append}
 use Rattle.std.proofs.lemmas.List.{take_at}
+use Rattle.nn_base.specs.Limits.{most_record, IsLong}
 use Rattle.nn_wire.specs.Crc32.{crc32_of}
 use Rattle.nn_record.specs.Spelling.{u32, u64, unsealed, sealed, BeginsWithFrame}
 
@@ -32,7 +33,7 @@ pub record Parted (bytes after body : List ℕ) (opcode len id : ℕ) : Type 0 w
   pub then_len : after_opcode ≡ u32 len ++ after_len
   pub then_id : after_len ≡ u64 id ++ after_id
   pub some : 12 ≤ len
-  pub most : len ≤ 65531
+  pub most : len ≤ most_record - 5
   pub size : length body ≡ len - 12
   pub then_body : after_id ≡ body ++ after
 
@@ -60,7 +61,7 @@ frame_found bytes after_body after body opcode len id sum p s crc =
     then bytes text after_body (u32 (crc32_of text)) after e (subst (λ (n : ℕ). after_body ≡ u32 n ++ after) (crc ∙ ap crc32_of front) s)
 
 -- an opcode, a length, an id and a checksum have seventeen bytes
-pub frame_begins : (bytes body after : List ℕ) (opcode id : ℕ) → 1 ≤ id → id < 2 ^ 63 → length body ≤ 65519 → bytes ≡ sealed (unsealed opcode id body) ++ after → BeginsWithFrame bytes
+pub frame_begins : (bytes body after : List ℕ) (opcode id : ℕ) → 1 ≤ id → IsLong id → length body ≤ most_record - 17 → bytes ≡ sealed (unsealed opcode id body) ++ after → BeginsWithFrame bytes
 unfolding sealed
 frame_begins bytes body after opcode id first last short e =
     let text = unsealed opcode id body in

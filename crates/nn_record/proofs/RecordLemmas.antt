@@ -4,6 +4,7 @@ use Rattle.std.specs.Int.{w32, w64}
 use Rattle.std.proofs.lemmas.Bool.{le-ltb, le-leb, eq-eqb}
 use Rattle.std.proofs.lemmas.List.{take_at, append-nil}
 use Rattle.std.proofs.lemmas.Nat.{xor_lt}
+use Rattle.nn_base.specs.Limits.{most_record, IsLong}
 use Rattle.nn_wire.specs.Crc32.{polynomial, all_ones, next_bit, next_bits, with_byte, crc32_of}
 use Rattle.nn_record.specs.declared.op.Op.TheVariants.{StartLogSegment, EndLogSegment}
 use Rattle.nn_record.specs.declared.transaction.Record.{Record}
@@ -68,16 +69,16 @@ length-end id = length-spelling (record { id = id; op = EndLogSegment })
 
 -- ---- what is spelled is read again
 
-id_again : (id : ℕ) (rest : List ℕ) → 1 ≤ id → id < 2 ^ 63 → id_at (u64 id ++ rest) ≡ Some (id, rest)
+id_again : (id : ℕ) (rest : List ℕ) → 1 ≤ id → IsLong id → id_at (u64 id ++ rest) ≡ Some (id, rest)
 unfolding id_at
 id_again id rest first last = rw (long_again id rest last, le-leb 1 id first) refl
 
-rest_again : (body rest : List ℕ) → 4 + 8 + length body ≤ 65531 → rest_at (4 + 8 + length body) (body ++ rest) ≡ Some (body, rest)
+rest_again : (body rest : List ℕ) → 4 + 8 + length body ≤ most_record - 5 → rest_at (4 + 8 + length body) (body ++ rest) ≡ Some (body, rest)
 unfolding rest_at
 rest_again body rest short =
-    rw (le-ltb (4 + 8 + length body) 12 (omega arith), le-ltb 65531 (4 + 8 + length body) short, text_again body rest (4 + 8 + length body - 12) (omega arith)) refl
+    rw (le-ltb (4 + 8 + length body) 12 (omega arith), le-ltb (most_record - 5) (4 + 8 + length body) short, text_again body rest (4 + 8 + length body - 12) (omega arith)) refl
 
-frame_again : (opcode id : ℕ) (body rest : List ℕ) → 4 + 8 + length body ≤ 65531 → 1 ≤ id → id < 2 ^ 63 → crc32_of (unsealed opcode id body) < 2 ^ 32 → frame_at (sealed (unsealed opcode id body) ++ rest) ≡ Some ((opcode, id, body), rest)
+frame_again : (opcode id : ℕ) (body rest : List ℕ) → 4 + 8 + length body ≤ most_record - 5 → 1 ≤ id → IsLong id → crc32_of (unsealed opcode id body) < 2 ^ 32 → frame_at (sealed (unsealed opcode id body) ++ rest) ≡ Some ((opcode, id, body), rest)
 unfolding frame_at byte_at
 frame_again opcode id body rest short first last small =
     let text = unsealed opcode id body in

@@ -1,6 +1,6 @@
 -- The changes that a record may hold: their opcodes, and the bounds of their fields.
 use Rattle.std.specs.Prelude.{ℕ, ◌^◌, ◌<◌, ◌≤◌}
-use Rattle.nn_base.specs.Limits.{IsLong}
+use Rattle.nn_base.specs.Limits.{IsLong, most_mode}
 use Rattle.nn_base.specs.Labels.{IsLabel}
 use Rattle.nn_base.specs.Paths.{IsPath}
 use Rattle.nn_quota.specs.Quotas.{IsQuota}
@@ -24,9 +24,9 @@ opcode_of (AddBlock path id stamp length) = 33
 
 -- ---- what a change keeps
 
--- nine bits of permissions and the sticky bit: at most 1777 in octal
+-- nine bits of permissions and the sticky bit
 abbrev pub IsMode : ℕ → Type 0
-IsMode mode = mode ≤ 1023
+IsMode mode = mode ≤ most_mode
 
 -- the numbers are in their ranges (times, ids and stamps are longs); those that are bounded by their widths alone stand below
 abbrev pub IsOp : Op → Type 0

@@ -4,6 +4,7 @@ use Rattle.std.specs.Int.{Width, w16, w64, byte_len, from_be_bytes}
 use Rattle.nn_base.specs.declared.path.fault.PathFault.{PathFault}
 use Rattle.nn_base.specs.Paths.{Names}
 use Rattle.nn_base.specs.PathText.{parts_of, fault_of}
+use Rattle.nn_base.specs.Limits.{most_label, most_mode}
 use Rattle.nn_record.specs.declared.unread.Unread.{Unread}
 use Rattle.nn_record.specs.declared.unread.Unread.TheVariants.{NoRecord, Memory}
 
@@ -46,7 +47,7 @@ long_at bytes = do
 unfoldable pub mode_at : List ℕ → Field ℕ
 mode_at bytes = do
   n ← number_at w16 bytes
-  if nat_le n.0 1023 then Some (n.0, n.1) else None
+  if nat_le n.0 most_mode then Some (n.0, n.1) else None
 
 abbrev pub unless : {X : Type 0} → Option PathFault → X → Option X
 unless None x = Some x
@@ -67,7 +68,7 @@ unfoldable pub name_at : List ℕ → Field (List ℕ)
 name_at bytes = do
   len ← byte_at bytes
   text ← text_at len.0 len.1
-  if nat_le 1 (length text.0) && nat_le (length text.0) 32 then Some (text.0, text.1) else None
+  if nat_le 1 (length text.0) && nat_le (length text.0) most_label then Some (text.0, text.1) else None
 
 unfoldable pub bound_at : List ℕ → Field (Option ℕ)
 bound_at bytes = do

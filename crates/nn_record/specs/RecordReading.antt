@@ -1,6 +1,7 @@
 -- How a record is read, field by field: the grammar decides, and this says the same as what reading gives.
 use Rattle.std.specs.Prelude.{ℕ, ◌+◌, ◌-◌, ◌||◌, ◌==◌, nat_lt, nat_le, if◌then◌else◌, List, length, take, Some, None}
 use Rattle.std.specs.Int.{w16, w32, w64}
+use Rattle.nn_base.specs.Limits.{most_record}
 use Rattle.nn_wire.specs.Crc32.{crc32_of}
 use Rattle.nn_record.specs.declared.op.Op.{Op}
 use Rattle.nn_record.specs.declared.op.Op.TheVariants.{Add, RenameOld, Delete, Mkdir, SetReplication, SetPermissions, SetOwner, Close, SetQuota, EndLogSegment, StartLogSegment, AddBlock}
@@ -106,9 +107,9 @@ id_at bytes = do
   n ← long_at bytes
   if nat_le 1 n.0 then Some (n.0, n.1) else None
 
--- The length counts itself, the id and the body, and with the opcode and the checksum there are at most 65,536 bytes.
+-- The length counts itself, the id and the body: all of a record but the opcode and the checksum, which have five bytes.
 unfoldable pub rest_at : ℕ → List ℕ → Field (List ℕ)
-rest_at len bytes = if nat_lt len 12 || nat_lt 65531 len then None else text_at (len - 12) bytes
+rest_at len bytes = if nat_lt len 12 || nat_lt (most_record - 5) len then None else text_at (len - 12) bytes
 
 -- opcode, id and body, where the checksum is that of the opcode and of what the length counts
 unfoldable pub frame_at : List ℕ → Field (ℕ × ℕ × List ℕ)

@@ -1,7 +1,7 @@
 -- The one spelling of each record: opcode, length, transaction id, body and checksum, all numbers big-endian.
 use Rattle.std.specs.Prelude.{◌≡◌, ℕ, ◌+◌, ◌-◌, ◌^◌, ◌<◌, ◌≤◌, List, [], ◌∷◌, ◌++◌, length, Option, Some, None}
 use Rattle.std.specs.Int.{w16, w32, w64, to_be_bytes}
-use Rattle.nn_base.specs.Limits.{most_record}
+use Rattle.nn_base.specs.Limits.{most_record, IsLong}
 use Rattle.nn_base.specs.Paths.{Names, text_of}
 use Rattle.nn_wire.specs.Crc32.{crc32_of}
 use Rattle.nn_record.specs.declared.op.Op.{Op}
@@ -77,14 +77,14 @@ pub record BeginsWithFrame (bytes : List ℕ) : Type 0 where
   pub body : List ℕ
   pub after : List ℕ
   pub first : 1 ≤ id
-  pub last : id < 2 ^ 63
+  pub last : IsLong id
   pub size : length (sealed (unsealed opcode id body)) ≤ most_record
   pub text : bytes ≡ sealed (unsealed opcode id body) ++ after
 
 -- what has a spelling: a record with an id from 1 to 2^63 - 1 whose fields are in their ranges
 pub record IsRecord (r : Record) : Type 0 where
   pub first : 1 ≤ r.id
-  pub last : r.id < 2 ^ 63
+  pub last : IsLong r.id
   pub op : IsOp r.op
   pub held : IsHeld r.op
   pub size : length (spelling r) ≤ most_record

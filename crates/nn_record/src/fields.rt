@@ -11,11 +11,9 @@ ghost use Rattle.nn_record.specs.Reading as reading;
 
 use crate::numbers::{first_u16, first_u32, first_u64};
 use crate::unread::Unread;
+use nn_base::limits::MOST_MODE;
 use nn_base::{Label, Path, PathFault};
 use std::alloc::Global;
-
-/// The most that a mode may be: the sticky bit and nine permissions.
-const GREATEST_MODE: u16 = 0o1777;
 
 /// Where Hadoop's signed numbers end.
 const LONGS: u64 = 1 << 63;
@@ -98,7 +96,7 @@ pub(crate) fn take_mode(rest: &mut &[u8]) -> Result<u16, Unread>
     ensures exact { reading.Gives result rest.new.now (reading.mode_at rest.old.now) }
 {
     let mode = take_u16(rest)?;
-    if mode <= GREATEST_MODE {
+    if mode <= MOST_MODE {
         Ok(mode)
     } else {
         Err(Unread::NoRecord)

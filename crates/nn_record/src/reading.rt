@@ -1,5 +1,6 @@
 // Reads a record at the front of bytes.
 ghost use Rattle.std.specs.Prelude.{◌≡◌, ℕ, ◌<◌, ◌≤◌, ◌^◌, ◌++◌, ◌-◌, List, length, drop, Some, IfOk, IfErr, IfSome, IfNone, OnErr};
+ghost use Rattle.nn_base.specs.Limits.{most_record, IsLong};
 ghost use Rattle.nn_record.specs.Ops.{opcode_of, IsOp, IsHeld};
 ghost use Rattle.nn_record.specs.Spelling.{unsealed, sealed, u64, spelling, Begins, BeginsWithFrame};
 ghost use Rattle.nn_record.specs.declared.transaction.Record.{Record};
@@ -11,6 +12,7 @@ use crate::Record;
 use crate::bodies::take_op;
 use crate::fields::{take_long, take_text, take_u8, take_u32};
 use crate::unread::Unread;
+use nn_base::limits::MOST_RECORD;
 use nn_base::{NoMemory, Txid};
 use nn_wire::crc32;
 use std::alloc::Global;
@@ -18,8 +20,8 @@ use std::alloc::Global;
 /// How many of the bytes that the length counts stand before the body: its own and those of the id.
 const HEAD: usize = 12;
 
-/// The most that the length may be: a record has at most 65,536 bytes, and neither the opcode nor the checksum is counted.
-const GREATEST_LENGTH: usize = 65_531;
+/// The most that the length may be: it counts neither the opcode nor the checksum, which have five bytes.
+const GREATEST_LENGTH: usize = MOST_RECORD - 5;
 
 /// The parts of a record.
 #[derive(Clone, Copy)]
@@ -31,7 +33,7 @@ struct Frame<'a> {
 
 #[tactic(auto, unfolding(crate::specs::RecordReading::id_at))]
 fn take_id(rest: &mut &[u8]) -> Result<u64, Unread>
-    ensures found { IfOk result (λ id. (1 ≤ id) × (id < 2 ^ 63) × (rest.old.now ≡ u64 id ++ rest.new.now)) }
+    ensures found { IfOk result (λ id. (1 ≤ id) × IsLong id × (rest.old.now ≡ u64 id ++ rest.new.now)) }
     ensures exact { Gives result rest.new.now (reading.id_at rest.old.now) }
     ensures err { IfErr result (λ e. e ≡ NoRecord) }
 {
@@ -45,7 +47,7 @@ fn take_id(rest: &mut &[u8]) -> Result<u64, Unread>
 
 #[tactic(auto, unfolding(crate::specs::RecordReading::rest_at))]
 fn take_rest<'a>(len: usize, rest: &mut &'a [u8]) -> Result<&'a [u8], Unread>
-    ensures found { IfOk result (λ body. (12 ≤ len) × (len ≤ 65531) × (length body.now ≡ len - 12) × (rest.old.now ≡ body.now ++ rest.new.now)) }
+    ensures found { IfOk result (λ body. (12 ≤ len) × (len ≤ most_record - 5) × (length body.now ≡ len - 12) × (rest.old.now ≡ body.now ++ rest.new.now)) }
     ensures exact { IfOk result (λ body. reading.rest_at len rest.old.now ≡ Some (body.now, rest.new.now)) }
     ensures none { IfErr result (λ e. Fails e (reading.rest_at len rest.old.now)) }
     ensures err { IfErr result (λ e. e ≡ NoRecord) }
@@ -58,8 +60,8 @@ fn take_rest<'a>(len: usize, rest: &mut &'a [u8]) -> Result<&'a [u8], Unread>
 
 #[tactic(auto, unfolding(crate::specs::RecordReading::frame_at))]
 fn take_frame<'a>(rest: &mut &'a [u8]) -> Result<Frame<'a>, Unread>
-    ensures id { IfOk result (λ frame. (1 ≤ frame.id) × (frame.id < 2 ^ 63)) }
-    ensures size { IfOk result (λ frame. length frame.body.now ≤ 65519) }
+    ensures id { IfOk result (λ frame. (1 ≤ frame.id) × IsLong frame.id) }
+    ensures size { IfOk result (λ frame. length frame.body.now ≤ most_record - 17) }
     ensures found { IfOk result (λ frame. rest.old.now ≡ sealed (unsealed frame.opcode frame.id frame.body.now) ++ rest.new.now) }
     ensures exact { IfOk result (λ frame. reading.frame_at rest.old.now ≡ Some ((frame.opcode, frame.id, frame.body.now), rest.new.now)) }
     ensures none { IfErr result (λ e. Fails e (reading.frame_at rest.old.now)) }
@@ -81,7 +83,7 @@ fn take_frame<'a>(rest: &mut &'a [u8]) -> Result<Frame<'a>, Unread>
 /// record reserves any.
 #[tactic(auto, using(crate::proofs::FrameLemmas::frame_begins), unfolding(crate::specs::RecordReading::record_at, crate::specs::Spelling::spelling))]
 pub(crate) fn take_record(alloc: Global, rest: &mut &[u8]) -> Result<Record, Unread>
-    ensures id { IfOk result (λ r. (1 ≤ r.id) × (r.id < 2 ^ 63)) }
+    ensures id { IfOk result (λ r. (1 ≤ r.id) × IsLong r.id) }
     ensures op { IfOk result (λ r. IsOp r.op × IsHeld r.op) }
     ensures found { IfOk result (λ r. rest.old.now ≡ spelling r ++ rest.new.now) }
     ensures exact { Gives result rest.new.now (reading.record_at rest.old.now) }

@@ -1,6 +1,6 @@
 // Writes a record.
-ghost use Rattle.std.specs.Prelude.{◌≡◌, ◌+◌, ◌^◌, ◌<◌, ◌≤◌, ◌++◌, vec_len, vec_capacity};
-ghost use Rattle.nn_base.specs.Limits.{most_record};
+ghost use Rattle.std.specs.Prelude.{◌≡◌, ◌+◌, ◌^◌, ◌<◌, ◌≤◌, ◌++◌, vec_len, vec_capacity, ◌*◌};
+ghost use Rattle.nn_base.specs.Limits.{most_record, IsLong, most_path};
 ghost use Rattle.nn_record.specs.Ops.{opcode_of, IsOp, IsHeld};
 ghost use Rattle.nn_record.specs.Spelling.{body_bytes, unsealed, spelling, IsRecord};
 
@@ -49,11 +49,11 @@ pub(crate) fn put_record(id: Txid, op: &Op, out: &mut Vec<u8>)
 
 fn put_unsealed(id: Txid, op: &Op, out: &mut Vec<u8>)
     requires op { IsOp op.now }
-    requires room { vec_len out.old + 65000 ≤ vec_capacity out.old }
-    ensures id { id < 2 ^ 63 }
+    requires room { vec_len out.old + (2 * most_path + 1013) ≤ vec_capacity out.old }
+    ensures id { IsLong id }
     ensures held { IsHeld op.now }
     ensures items { out.new.items ≡ out.old.items ++ unsealed (opcode_of op.now) id (body_bytes op.now) }
-    ensures len { vec_len out.new ≤ vec_len out.old + 65000 }
+    ensures len { vec_len out.new ≤ vec_len out.old + (2 * most_path + 1013) }
     ensures capacity { vec_capacity out.old ≤ vec_capacity out.new }
 {
     let start = out.len();
@@ -69,10 +69,10 @@ fn put_unsealed(id: Txid, op: &Op, out: &mut Vec<u8>)
 #[tactic(auto, unfolding(crate::specs::Spelling::body_bytes))]
 fn put_body(op: &Op, out: &mut Vec<u8>)
     requires op { IsOp op.now }
-    requires room { vec_len out.old + 17000 ≤ vec_capacity out.old }
+    requires room { vec_len out.old + (2 * most_path + 1000) ≤ vec_capacity out.old }
     ensures held { IsHeld op.now }
     ensures items { out.new.items ≡ out.old.items ++ body_bytes op.now }
-    ensures len { vec_len out.new ≤ vec_len out.old + 17000 }
+    ensures len { vec_len out.new ≤ vec_len out.old + (2 * most_path + 1000) }
     ensures capacity { vec_capacity out.old ≤ vec_capacity out.new }
 {
     match op {

@@ -114,10 +114,10 @@ fn put_part(name: &Name, out: &mut Vec<u8>)
 
 #[tactic(auto, unfolding(crate::specs::Spelling::path, crate::specs::Spelling::u16))]
 pub(crate) fn put_path(path: &Path, out: &mut Vec<u8>)
-    requires room { vec_len out.old + 8002 ≤ vec_capacity out.old }
+    requires room { vec_len out.old + (most_path + 2) ≤ vec_capacity out.old }
     ensures path { IsPath path.now }
     ensures items { out.new.items ≡ out.old.items ++ spelling.path path.now }
-    ensures len { vec_len out.new ≤ vec_len out.old + 8002 }
+    ensures len { vec_len out.new ≤ vec_len out.old + (most_path + 2) }
     ensures capacity { vec_capacity out.old ≤ vec_capacity out.new }
 {
     let start = out.len();

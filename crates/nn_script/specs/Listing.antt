@@ -11,6 +11,10 @@ use Rattle.nn_tree.specs.declared.node.Node.{Node}
 use Rattle.nn_tree.specs.Nodes.{blocks_of, length_of}
 use Rattle.nn_script.specs.Spelling.{escaped, line_of, spaced}
 
+-- the most bytes that a part of a listing has, as `MAX_PART` of the code
+abbrev pub max_part : ℕ
+max_part = 768
+
 -- four octal digits
 abbrev pub mode_text : ℕ → Bytes
 mode_text mode = (48 + mode / 512 % 8) ∷ (48 + mode / 64 % 8) ∷ (48 + mode / 8 % 8) ∷ (48 + mode % 8) ∷ []

@@ -2,7 +2,7 @@
 use Rattle.std.specs.Prelude.{ℕ, ◌^◌, ◌<◌, not, ◌==◌, nat_lt, List, [], ◌∷◌, length, Option, Some, None, Result, Ok, Err, if◌then◌else◌}
 use Rattle.std.specs.List.{list_all, list_any}
 use Rattle.std.specs.Option.{ok_or}
-use Rattle.nn_base.specs.Limits.{most_line}
+use Rattle.nn_base.specs.Limits.{most_line, IsLong}
 use Rattle.nn_base.specs.Paths.{Bytes}
 use Rattle.nn_quota.specs.declared.quota.Quota.{Quota}
 use Rattle.nn_ops.specs.declared.command.Command.{Command}
@@ -23,16 +23,16 @@ use Rattle.nn_script.specs.Arguments.{◌>>=◌, no_word, one, two, three, numbe
 
 -- ---- the commands
 
--- the ranges of the numbers in a command: those of a change, and below 2^63
+-- the ranges of the numbers in a command
 abbrev pub IsInRange : ScriptCommand → Type 0
 IsInRange (command.Namespace change) = IsCommand change
-IsInRange (command.Clock time) = time < 2 ^ 63
+IsInRange (command.Clock time) = IsLong time
 IsInRange (command.List path) = Unit {0}
 IsInRange command.Dirs = Unit {0}
 IsInRange command.Roll = Unit {0}
 IsInRange command.Checkpoint = Unit {0}
 IsInRange command.Finalize = Unit {0}
-IsInRange (command.Restore dir) = dir < 2 ^ 63
+IsInRange (command.Restore dir) = IsLong dir
 
 abbrev pub quota_of : Option ℕ → Option ℕ → Quota
 quota_of names space = record { names = names; space = space }

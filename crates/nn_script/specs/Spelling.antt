@@ -89,3 +89,7 @@ IsSaid (Unread fault) = (fault ≢ syntax.Memory) × (fault ≢ syntax.Path path
 
 abbrev pub answer_text : Answer → Bytes
 answer_text answer = line_of (answer_words answer)
+
+-- the most bytes that the last line of an answer has, as `MAX_ANSWER` of the code
+abbrev pub max_answer : ℕ
+max_answer = 24

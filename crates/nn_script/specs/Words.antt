@@ -4,6 +4,7 @@ use Rattle.std.specs.List.{slice_split, list_all}
 use Rattle.std.specs.Char.{is_ascii_digit}
 use Rattle.std.specs.Str.Parse.{digits_value}
 use Rattle.nn_base.specs.Paths.{Bytes}
+use Rattle.nn_base.specs.Limits.{most_mode}
 
 -- what stands between the spaces
 abbrev pub words : Bytes → List Bytes
@@ -26,9 +27,9 @@ words_behind rest = pieces_behind 32 rest
 abbrev pub is_octal_digit : ℕ → Bool
 is_octal_digit byte = nat_le 48 byte && nat_le byte 55
 
--- 1 to 4 octal digits that write at most 1777, which is 1023
+-- 1 to 4 octal digits that write a mode
 abbrev pub is_mode : Bytes → Bool
-is_mode word = nat_le 1 (length word) && (nat_le (length word) 4 && (list_all is_octal_digit word && nat_le (digits_value 8 word) 1023))
+is_mode word = nat_le 1 (length word) && (nat_le (length word) 4 && (list_all is_octal_digit word && nat_le (digits_value 8 word) most_mode))
 
 abbrev pub mode_in : Bytes → Option ℕ
 mode_in word = if is_mode word then Some (digits_value 8 word) else None

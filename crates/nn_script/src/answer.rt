@@ -1,7 +1,7 @@
 // What a line is answered.
 ghost use Rattle.std.specs.Prelude.{◌≡◌, ◌≤◌, ◌+◌, ◌++◌, length, vec_len, vec_capacity};
 ghost use Rattle.nn_script.specs.Spelling.{answer_text, spaced, syntax_words};
-ghost use Rattle.nn_script.specs.Spelling.{refusal_word, path_word, IsSaid};
+ghost use Rattle.nn_script.specs.Spelling.{refusal_word, path_word, IsSaid, max_answer};
 
 use crate::Syntax;
 use crate::append::{put, put_number, put_word};
@@ -31,9 +31,9 @@ impl Answer {
     /// Appends the line to a buffer that has room for it, which takes no memory.
     pub fn text(self, out: &mut Vec<u8>)
         requires said { IsSaid self }
-        requires room { vec_len out.old + 24 ≤ vec_capacity out.old }
+        requires room { vec_len out.old + max_answer ≤ vec_capacity out.old }
         ensures text { out.new.items ≡ out.old.items ++ answer_text self }
-        ensures short { length (answer_text self) ≤ 24 }
+        ensures short { length (answer_text self) ≤ max_answer }
         ensures room { vec_capacity out.old ≤ vec_capacity out.new }
     {
         match self {

@@ -2,24 +2,26 @@
 ghost use Rattle.std.specs.Prelude.{◌≡◌, ◌<◌, ◌≤◌, ◌^◌, IfOk, IfSome, IsTrue, length};
 ghost use Rattle.std.specs.List.{list_all};
 ghost use Rattle.std.specs.Str.Parse.{digits_value};
+ghost use Rattle.nn_base.specs.Limits.{most_mode, IsLong};
 ghost use Rattle.nn_script.specs.Words.{is_octal_digit};
 ghost use Rattle.nn_script.specs.Arguments as arguments;
 
 use crate::Syntax;
 use crate::escape::unescaped;
+use nn_base::limits::MOST_MODE;
 use nn_base::{Label, Path, PathFault, decimal};
 use std::alloc::Global;
 
 pub(crate) fn number(word: &[u8]) -> Result<u64, Syntax>
     ensures value { arguments.Gives (λ n. n) result (arguments.number_at word.now) }
-    ensures range { IfOk result (λ n. n < 2 ^ 63) }
+    ensures range { IfOk result IsLong }
 {
     decimal::number(word).ok_or(Syntax::Number)
 }
 
 pub(crate) fn quota(word: &[u8]) -> Result<Option<u64>, Syntax>
     ensures value { arguments.Gives (λ quota. quota) result (arguments.quota_at word.now) }
-    ensures range { IfOk result (λ quota. IfSome quota (λ n. n < 2 ^ 63)) }
+    ensures range { IfOk result (λ quota. IfSome quota IsLong) }
 {
     if word == b"-".as_slice() {
         return Ok(None);
@@ -29,13 +31,13 @@ pub(crate) fn quota(word: &[u8]) -> Result<Option<u64>, Syntax>
 
 pub(crate) fn mode(word: &[u8]) -> Result<u16, Syntax>
     ensures value { arguments.Gives (λ mode. mode) result (arguments.mode_at word.now) }
-    ensures range { IfOk result (λ mode. mode ≤ 1023) }
+    ensures range { IfOk result (λ mode. mode ≤ most_mode) }
 {
     if word.is_empty() || 4 < word.len() || !are_octal(word) {
         return Err(Syntax::Mode);
     }
     let mode = octal(word);
-    if mode <= 0o1777 {
+    if mode <= MOST_MODE {
         Ok(mode)
     } else {
         Err(Syntax::Mode)

@@ -2,6 +2,7 @@
 ghost use Rattle.std.specs.Prelude.{◌≡◌, ◌≢◌, ◌==◌, ◌<◌, ◌^◌, IfOk, IfErr, IfSome, length};
 ghost use Rattle.std.specs.List.{list_all, list_any};
 ghost use Rattle.std.specs.Option.{option_copied};
+ghost use Rattle.nn_base.specs.Limits.{IsLong};
 ghost use Rattle.nn_ops.specs.Commands.{IsCommand};
 ghost use Rattle.nn_script.specs.Lines.{has_no_answer};
 ghost use Rattle.nn_script.specs.Words.{words, words_behind, is_line_byte};
@@ -206,7 +207,7 @@ fn one_path(alloc: Global, rest: Option<&[u8]>) -> Result<Path, Syntax>
 fn one_number(rest: Option<&[u8]>) -> Result<u64, Syntax>
     ensures value { arguments.Gives (λ n. n) result
         (arguments.one arguments.number_at (words_behind (option_copied rest.entry))) }
-    ensures range { IfOk result (λ n. n < 2 ^ 63) }
+    ensures range { IfOk result IsLong }
 {
     let word = one_word(rest)?;
     number(word)

@@ -1,9 +1,10 @@
 // The parts of a listing.
 ghost use Rattle.std.specs.Prelude.{◌≡◌, ◌≤◌, ◌+◌, ◌∷◌, ◌++◌, length, vec_len, vec_capacity};
+ghost use Rattle.nn_base.specs.Limits.{most_name};
 ghost use Rattle.nn_tree.specs.Limits.{IsNode, IsKind};
 ghost use Rattle.nn_script.specs.Spelling.{spaced, escaped};
 ghost use Rattle.nn_script.specs.Listing.{mode_text, quota_text, open_text, sign_of, details};
-ghost use Rattle.nn_script.specs.Listing.{attributes, node_words, block_line};
+ghost use Rattle.nn_script.specs.Listing.{attributes, node_words, block_line, max_part};
 ghost use Rattle.std.specs.Fmt.{decimal};
 
 use crate::append::{put, put_escaped, put_number, put_word};
@@ -18,9 +19,9 @@ pub const MAX_PART: usize = 768;
 /// Appends what stands in a node's line before its path, to a buffer that has room for it. A directory's line has its usage; that of a file doesn't, so there any will do.
 pub fn node_words(node: &Node, usage: Usage, out: &mut Vec<u8>)
     requires bounds { IsNode node.now }
-    requires room { vec_len out.old + 768 ≤ vec_capacity out.old }
+    requires room { vec_len out.old + max_part ≤ vec_capacity out.old }
     ensures text { out.new.items ≡ out.old.items ++ node_words node.now usage }
-    ensures size { vec_len out.new ≤ vec_len out.old + 768 }
+    ensures size { vec_len out.new ≤ vec_len out.old + max_part }
     ensures room { vec_capacity out.old ≤ vec_capacity out.new }
 {
     put(sign_of(&node.kind), out);
@@ -31,10 +32,10 @@ pub fn node_words(node: &Node, usage: Usage, out: &mut Vec<u8>)
 
 /// Appends a name of a path as it is spelled there, to a buffer that has room for it.
 pub fn name_text(name: &[u8], out: &mut Vec<u8>)
-    requires short { length name.now ≤ 255 }
-    requires room { vec_len out.old + 768 ≤ vec_capacity out.old }
+    requires short { length name.now ≤ most_name }
+    requires room { vec_len out.old + max_part ≤ vec_capacity out.old }
     ensures text { out.new.items ≡ out.old.items ++ 47 ∷ escaped name.now }
-    ensures size { vec_len out.new ≤ vec_len out.old + 768 }
+    ensures size { vec_len out.new ≤ vec_len out.old + max_part }
     ensures room { vec_capacity out.old ≤ vec_capacity out.new }
 {
     put(b"/", out);
@@ -43,9 +44,9 @@ pub fn name_text(name: &[u8], out: &mut Vec<u8>)
 
 /// Appends the line of a block, which follows that of its file, to a buffer that has room for it.
 pub fn block_line(block: Block, out: &mut Vec<u8>)
-    requires { vec_len out.old + 768 ≤ vec_capacity out.old }
+    requires { vec_len out.old + max_part ≤ vec_capacity out.old }
     ensures text { out.new.items ≡ out.old.items ++ block_line block }
-    ensures size { vec_len out.new ≤ vec_len out.old + 768 }
+    ensures size { vec_len out.new ≤ vec_len out.old + max_part }
     ensures room { vec_capacity out.old ≤ vec_capacity out.new }
 {
     put(b"b", out);

@@ -1,6 +1,6 @@
 -- For callers: a walk by the next path visits the entries below its top, in their order.
 use Rattle.std.proofs.Common.{◌≡◌, ◌≢◌, ℕ, zero, suc, ◌+◌, ◌-◌, ◌<◌, Bool, true, false, cond, List, [], ◌∷◌, ◌++◌, inl, inr, length, take, drop, Option, Some, None, refl, sym, ap, subst, ◌∙◌, arith, is_some, get_or, append-nil}
-use Rattle.std.specs.Prelude.{slice_get, option_map, count_by, T}
+use Rattle.std.specs.Prelude.{slice_get, option_map, count_by}
 use Rattle.std.specs.Ordering.{is_lt}
 use Rattle.std.specs.List.{filter}
 use Rattle.std.proofs.lemmas.List.Sums.{sum_by-cons}
@@ -12,18 +12,15 @@ use Rattle.std.proofs.lemmas.Bool.{cases_lt}
 use Rattle.std.proofs.lemmas.List.{take_more}
 use Rattle.std.proofs.lemmas.Option.{slice_get-get_or, slice_get_within, slice_get_past, get_or_from_slice_get}
 use Rattle.nn_base.specs.Paths.{Names, path_cmp, is_under}
+use Rattle.nn_base.proofs.PlainLemmas.{some_of, is_true}
 use Rattle.nn_tree.specs.declared.node.Node.{Node}
 use Rattle.nn_tree.specs.declared.spot.Spot.{Spot}
 use Rattle.nn_tree.specs.Namespace.{Nodes}
 use Rattle.nn_tree.specs.Below.{entries_below, IsNextBelow, count_before, visited, IsBelow}
-use Rattle.nn_tree.proofs.LinksLemmas.{paths_total, paths_exact, some_of}
+use Rattle.nn_tree.proofs.LinksLemmas.{paths_total, paths_exact}
 use Rattle.nn_tree.proofs.PrefixLemmas.{under_split, under_itself}
 use Rattle.nn_tree.proofs.OrderLemmas.{cancel, none_less}
 use Rattle.nn_tree.proofs.SortedLemmas.{rises, count_at, find_at, found_at, next_place}
-
-is_true : (b : Bool) → T b → b ≡ true
-is_true true h = refl
-is_true false h = absurd h
 
 -- top is the least path below it
 least_below : (top q : Names) → is_under top q ≡ true → path_cmp q top ≢ Less

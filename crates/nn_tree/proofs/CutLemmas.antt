@@ -3,12 +3,13 @@ use Rattle.std.proofs.Common.{◌≡◌, ◌≢◌, ℕ, zero, suc, ◌<◌, Boo
 use Rattle.std.specs.Prelude.{option_and_then, option_map}
 use Rattle.std.proofs.lemmas.List.{ext_get_or, length-map}
 use Rattle.nn_base.specs.Paths.{Names, is_under}
+use Rattle.nn_base.proofs.PlainLemmas.{some_of}
 use Rattle.nn_tree.specs.declared.node.Node.{Node}
 use Rattle.nn_tree.specs.declared.spot.Spot.{Spot}
 use Rattle.nn_tree.specs.Slots.{of_slots, slot_at}
 use Rattle.nn_tree.specs.Links.{Link, Links, up, path_at, slot, slots, nodes_of, IsTree, has_place, place_of}
 use Rattle.nn_tree.proofs.ClimbLemmas.{IsBounded, above, below, is_live, path_found}
-use Rattle.nn_tree.proofs.LinksLemmas.{paths_total, paths_exact, some_of, slot_is, length_slots, path_live, path_of_place}
+use Rattle.nn_tree.proofs.LinksLemmas.{paths_total, paths_exact, slot_is, length_slots, path_live, path_of_place}
 use Rattle.nn_tree.specs.Slots.{keep_slot}
 use Rattle.nn_tree.specs.Changes.{cut}
 use Rattle.nn_tree.specs.Spots.{Removes}

@@ -4,12 +4,13 @@ use Rattle.std.specs.Prelude.{option_and_then, option_map}
 use Rattle.std.specs.FinMap.{insert}
 use Rattle.std.proofs.lemmas.Bool.{cases_eq}
 use Rattle.nn_base.specs.Paths.{Names, Bytes, is_name}
+use Rattle.nn_base.proofs.PlainLemmas.{some_is}
 use Rattle.nn_tree.specs.declared.node.Node.{Node}
 use Rattle.nn_tree.specs.Nodes.{is_dir}
 use Rattle.nn_tree.specs.Namespace.{Nodes}
 use Rattle.nn_tree.specs.Slots.{of_slots}
 use Rattle.nn_tree.specs.Links.{Link, Links, up, path_at, slots, nodes_of, IsTree, has_place, place_of}
-use Rattle.nn_tree.proofs.LinksLemmas.{paths_total, paths_exact, some_is, slot_of, slot_is, differ_slots, node_found, path_of_place}
+use Rattle.nn_tree.proofs.LinksLemmas.{paths_total, paths_exact, slot_of, slot_is, differ_slots, node_found, path_of_place}
 use Rattle.nn_tree.specs.Changes.{change_at}
 use Rattle.nn_tree.proofs.SlotsLemmas.{set_value}
 use Rattle.nn_tree.proofs.SetLemmas.{Sets, bounded_set, slots_set}

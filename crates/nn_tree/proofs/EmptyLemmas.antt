@@ -5,10 +5,11 @@ use Rattle.std.specs.List.{flat_map, IsDistinct}
 use Rattle.std.specs.FinMap.{get, entries, empty, put, get-insert, get-empty, entries-insert, len-entries, len-empty}
 use Rattle.std.proofs.lemmas.Option.{none-some, same_Some}
 use Rattle.nn_base.specs.Paths.{Bytes, Names, path_cmp, IsPath}
+use Rattle.nn_base.proofs.PlainLemmas.{some_of}
 use Rattle.nn_tree.specs.declared.node.Node.{Node}
 use Rattle.nn_tree.specs.Nodes.{blocks_of, quota_of}
 use Rattle.nn_tree.specs.Namespace.{empty_namespace, root_node}
-use Rattle.nn_tree.proofs.LinksLemmas.{paths_total, some_of}
+use Rattle.nn_tree.proofs.LinksLemmas.{paths_total}
 use Rattle.nn_tree.proofs.LimitsLemmas.{limits_empty}
 use Rattle.nn_tree.specs.Imaged.{IsImaged, AreGiven, blocks_of_files}
 

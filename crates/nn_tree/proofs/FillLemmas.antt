@@ -6,6 +6,7 @@ use Rattle.std.specs.List.{range_with_len}
 use Rattle.std.specs.FinMap.{get, insert, empty}
 use Rattle.std.proofs.lemmas.Bool.{cases_eq}
 use Rattle.nn_base.specs.Paths.{Names, path_cmp, is_name}
+use Rattle.nn_base.proofs.PlainLemmas.{some_is}
 use Rattle.nn_tree.specs.declared.spot.Spot.{Spot}
 use Rattle.nn_tree.specs.Nodes.{is_dir}
 use Rattle.nn_tree.specs.Namespace.{IsRoot, is_dir_at}
@@ -13,7 +14,7 @@ use Rattle.nn_tree.specs.Slots.{of_slots}
 use Rattle.nn_tree.specs.Spots.{Keeps}
 use Rattle.nn_tree.specs.Links.{Link, Links, up, path_at, slot, slots, nodes_of, IsTree, has_place, place_of}
 use Rattle.nn_tree.proofs.ClimbLemmas.{IsBounded, above, below, is_live, path_found}
-use Rattle.nn_tree.proofs.LinksLemmas.{paths_total, paths_exact, some_is, slot_empty, slot_of, slot_is, length_slots, node_found, path_live, path_of_place, under}
+use Rattle.nn_tree.proofs.LinksLemmas.{paths_total, paths_exact, slot_empty, slot_of, slot_is, length_slots, node_found, path_live, path_of_place, under}
 use Rattle.nn_tree.proofs.SlotsLemmas.{set_empty}
 use Rattle.nn_tree.proofs.SetLemmas.{Sets, bounded_set, slots_set}
 

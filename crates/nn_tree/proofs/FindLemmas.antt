@@ -3,10 +3,11 @@ use Rattle.std.proofs.Common.{◌≡◌, ◌≢◌, ℕ, zero, suc, ◌+◌, ◌
 use Rattle.std.specs.FinMap.{get}
 use Rattle.std.proofs.Math.ListN.{get_or}
 use Rattle.nn_base.specs.Paths.{Names, Bytes}
+use Rattle.nn_base.proofs.PlainLemmas.{some_is}
 use Rattle.nn_tree.specs.Nodes.{is_dir}
 use Rattle.nn_tree.specs.Namespace.{Nodes}
 use Rattle.nn_tree.specs.Links.{Link, Links, path_at, nodes_of, IsTree, has_place, place_of}
-use Rattle.nn_tree.proofs.LinksLemmas.{some_is, node_found, path_live, under}
+use Rattle.nn_tree.proofs.LinksLemmas.{node_found, path_live, under}
 use Rattle.std.proofs.Common.{nat_eq, eq-eqb}
 use Rattle.std.specs.Prelude.{slice_get}
 use Rattle.std.specs.Cmp.Lexicographic.{pointwise, bytes_decides}

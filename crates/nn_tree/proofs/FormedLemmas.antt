@@ -8,13 +8,14 @@ use Rattle.std.proofs.lemmas.List.{same_from_push}
 use Rattle.std.proofs.lemmas.List.Elements.{All-nil, All-cons}
 use Rattle.std.proofs.Math.Seq.{append_snoc}
 use Rattle.nn_base.specs.Paths.{Names, Bytes, path_cmp, is_under, is_name}
+use Rattle.nn_base.proofs.PlainLemmas.{some_is, some_of}
 use Rattle.nn_tree.specs.declared.node.Node.{Node}
 use Rattle.nn_tree.specs.Nodes.{is_dir}
 use Rattle.nn_tree.specs.Namespace.{Nodes, IsNamespace, is_dir_at}
 use Rattle.nn_tree.specs.Changes.{change_at, cut, move, moved}
 use Rattle.nn_tree.specs.Slots.{of_slots, rekey_slot, slot_at, Differ}
 use Rattle.nn_tree.specs.Totals.{total}
-use Rattle.nn_tree.proofs.LinksLemmas.{paths_total, paths_exact, some_is, some_of}
+use Rattle.nn_tree.proofs.LinksLemmas.{paths_total, paths_exact}
 use Rattle.nn_tree.proofs.SlotsLemmas.{hit, found, ties, itself}
 use Rattle.nn_tree.proofs.RekeyLemmas.{rekeyed, rekeyed_from, sorted_differ, of_entries, made_again, slot_map}
 use Rattle.nn_tree.proofs.KeptLemmas.{total-rekeyed}

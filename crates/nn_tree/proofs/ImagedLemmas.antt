@@ -1,10 +1,12 @@
 -- For callers: a namespace that can be saved stays one under each change.
-use Rattle.std.proofs.Common.{◌≡◌, ◌≢◌, ℕ, ◌+◌, ◌<◌, ◌≤◌, ◌^◌, Bool, true, false, eqb, List, [], ◌∷◌, ◌++◌, ◌⊎◌, inl, inr, map, length, Some, None, is_some, refl, sym, ap, subst, ◌∙◌, arith}
+use Rattle.std.proofs.Common.{◌≡◌, ◌≢◌, ℕ, ◌+◌, ◌<◌, ◌≤◌, Bool, true, false, eqb, List, [], ◌∷◌, ◌++◌, ◌⊎◌, inl, inr, map, length, Some, None, is_some, refl, sym, ap, subst, ◌∙◌, arith}
 use Rattle.std.specs.FinMap.{get, insert}
 use Rattle.std.proofs.lemmas.Bool.{cases_eq}
 use Rattle.std.proofs.lemmas.List.{map-append}
 use Rattle.std.proofs.lemmas.List.Elements.{All-contains, Contains-push}
 use Rattle.nn_base.specs.Paths.{Names, Bytes, IsPath, is_name, is_under, joined}
+use Rattle.nn_base.specs.Limits.{most_levels, most_path, IsLong}
+use Rattle.nn_base.proofs.PlainLemmas.{some_of}
 use Rattle.nn_tree.specs.declared.node.Block.{Block}
 use Rattle.nn_tree.specs.declared.node.Kind.{Kind}
 use Rattle.nn_tree.specs.declared.node.Kind.TheVariants.{File, Dir}
@@ -14,7 +16,6 @@ use Rattle.nn_tree.specs.Namespace.{Namespace, Nodes, IsNamespace, is_dir_at}
 use Rattle.nn_tree.specs.Limits.{IsWithinLimits}
 use Rattle.nn_tree.specs.Imaged.{IsImaged}
 use Rattle.nn_tree.specs.Changes.{with_nodes, change_at, cut, move, moved, add_block, with_block}
-use Rattle.nn_tree.proofs.LinksLemmas.{some_of}
 use Rattle.nn_tree.proofs.LimitsLemmas.{limits_cut}
 use Rattle.nn_tree.proofs.PrefixLemmas.{moved_out}
 use Rattle.nn_tree.proofs.CountedLemmas.{times, one_if, times-cons, times-append, times_here, times_elsewhere}
@@ -46,7 +47,7 @@ module _ (ns : Namespace) (p : Names) (name : Bytes) (x : Node) where
   with_new = record { nodes = insert ns.nodes (p ++ name ∷ []) x; counters = record ns.counters { inode = x.id } }
 
   pub imaged_insert : IsImaged ns → get ns.nodes (p ++ name ∷ []) ≡ None → is_dir_at ns.nodes p ≡ true → IsPath (p ++ name ∷ []) → IsWithinLimits (insert ns.nodes (p ++ name ∷ []) x)
-      → x.id ≡ ns.counters.inode + 1 → x.id < 2 ^ 63 → blocks_of x.kind ≡ [] → HasQuota x.kind
+      → x.id ≡ ns.counters.inode + 1 → IsLong x.id → blocks_of x.kind ≡ [] → HasQuota x.kind
       → IsImaged (record { nodes = insert ns.nodes (p ++ name ∷ []) x; counters = record ns.counters { inode = x.id } })
   imaged_insert h free dir path limits next fits empty quota = record {
     formed = formed_insert ns.nodes p name x h.formed free dir named;
@@ -172,7 +173,7 @@ module _ (ns : Namespace) (p : Names) (block : Block) (x : Node) (h : IsImaged n
   abbrev with_block_more : Namespace
   with_block_more = record { nodes = change_at p (with_block block) ns.nodes; counters = record ns.counters { block = block.id; stamp = block.stamp } }
 
-  pub imaged_block : get ns.nodes p ≡ Some x → IsWithinLimits (change_at p (with_block block) ns.nodes) → block.id ≡ ns.counters.block + 1 → block.stamp ≡ ns.counters.stamp + 1 → block.id < 2 ^ 63 → block.stamp < 2 ^ 63
+  pub imaged_block : get ns.nodes p ≡ Some x → IsWithinLimits (change_at p (with_block block) ns.nodes) → block.id ≡ ns.counters.block + 1 → block.stamp ≡ ns.counters.stamp + 1 → IsLong block.id → IsLong block.stamp
       → IsImaged (record { nodes = change_at p (with_block block) ns.nodes; counters = record ns.counters { block = block.id; stamp = block.stamp } })
   imaged_block there limits next next_stamp fits fits_stamp = record {
     formed = formed_change ns.nodes p (with_block block) (λ y. refl) (λ y. dir_added block y.kind) h.formed;
@@ -248,8 +249,8 @@ module _ (ns : Namespace) (p : Names) where
 
 -- a path that is neither too deep nor too long
 pub record IsShort (p : Names) : Type 0 where
-  pub levels : length p ≤ 1000
-  pub size : length (joined p) ≤ 8000
+  pub levels : length p ≤ most_levels
+  pub size : length (joined p) ≤ most_path
 
 module _ (ns : Namespace) (p q : Names) (name : Bytes) (can : CanGo ns.nodes p (q ++ name ∷ [])) where
   abbrev d : Names
@@ -274,7 +275,7 @@ module _ (ns : Namespace) (p q : Names) (name : Bytes) (can : CanGo ns.nodes p (
     paths = λ r there. (let y = some_of (get with_moved.nodes r) there in let c = get_came ns.nodes p d can r y.0 y.1 in
         let s = short_of c.0 y.0 c.1 (is_under p c.0) refl in
         let named = named_there with_moved.nodes formed r there in
-        record { named = named; levels = subst (λ r. length r ≤ 1000) c.2 s.levels; size = subst (λ r. length (joined r) ≤ 8000) c.2 s.size });
+        record { named = named; levels = subst (λ r. length r ≤ most_levels) c.2 s.levels; size = subst (λ r. length (joined r) ≤ most_path) c.2 s.size });
     quotas = λ r y is. (let c = get_came ns.nodes p d can r y is in h.quotas c.0 y c.1);
     inodes = inodes_given with_moved numbers;
     blocks = blocks_given with_moved numbers;

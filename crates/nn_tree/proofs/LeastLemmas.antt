@@ -9,24 +9,19 @@ use Rattle.nn_tree.specs.declared.node.Node.{Node}
 use Rattle.nn_tree.specs.declared.spot.Spot.{Spot}
 use Rattle.nn_tree.specs.Links.{Link, Links, path_at, nodes_of, IsTree, has_place, place_of}
 use Rattle.nn_tree.proofs.ClimbLemmas.{above}
-use Rattle.nn_tree.proofs.LinksLemmas.{names_total, some_is, some_of, under}
+use Rattle.nn_tree.proofs.LinksLemmas.{names_total, under}
 use Rattle.std.proofs.Common.{nat_eq, eq-eqb}
-use Rattle.std.specs.declared.cmp.Ordering.{Ordering}
-use Rattle.std.specs.declared.cmp.Ordering.TheVariants.{Less, Equal, Greater}
+use Rattle.std.specs.declared.cmp.Ordering.TheVariants.{Less}
 use Rattle.std.specs.Ordering.{is_lt}
 use Rattle.std.specs.Cmp.{IsTotalOrder, tied_itself}
 use Rattle.std.proofs.lemmas.Bool.{eqb-true}
 use Rattle.std.proofs.Math.Dec.{eqb-suc-zero}
 use Rattle.nn_base.specs.Paths.{name_cmp}
+use Rattle.nn_base.proofs.PlainLemmas.{some_is, some_of, is_less}
 use Rattle.nn_tree.specs.Spots.{NextChild, IsNextChild}
 use Rattle.nn_tree.specs.Plain.{is_later, is_later_link, name_at, IsLeast}
 use Rattle.nn_tree.proofs.LinksLemmas.{child_of}
 use Rattle.nn_tree.proofs.FindLemmas.{first_so, second_so}
-
-pub less_than : (o : Ordering) → is_lt o ≡ true → o ≡ Less
-less_than Less h = refl
-less_than Equal h = cc
-less_than Greater h = cc
 
 -- ---- one place more
 
@@ -54,7 +49,7 @@ module _ (g : Links) (a : ℕ) (bound : Bytes) where
     e,
     λ k lt c. elim (cases_eq k n) as (λ _. name_cmp (name_at g k) (name_at g n) ≢ Less) [
       | inl is ↦ λ l. not_less (name_at g n) (ap (λ k. name_cmp (name_at g k) (name_at g n)) (sym is) ∙ l)
-      | inr other ↦ λ l. h.1 k (omega arith) c (let o : IsTotalOrder name_cmp = names_total in o.trans (name_at g k) (name_at g n) (name_at g b) l (less_than _ w))
+      | inr other ↦ λ l. h.1 k (omega arith) c (let o : IsTotalOrder name_cmp = names_total in o.trans (name_at g k) (name_at g n) (name_at g b) l (is_less _ w))
     ],
   )
 
@@ -91,7 +86,7 @@ later_is g a bound k h = elim (g.at k) as (λ o. g.at k ≡ o → is_later_link 
       below_root = refl;
       live = is;
       parent = eqb-true l.parent a (first_so _ _ e);
-      above = less_than _ (second_so (nat_eq l.parent a) _ e);
+      above = is_less _ (second_so (nat_eq l.parent a) _ e);
     }
 
 -- and children are such places

@@ -1,12 +1,14 @@
 -- The limits of a namespace under its changes.
-use Rattle.std.proofs.Common.{◌≡◌, ℕ, ◌+◌, ◌<◌, ◌≤◌, Bool, true, false, not, cond, List, [], ◌∷◌, map, length, Option, Some, None, refl, sym, ap, subst, ◌∙◌, arith, ◌^◌, length-append}
+use Rattle.std.proofs.Common.{◌≡◌, ℕ, ◌+◌, ◌<◌, ◌≤◌, Bool, true, false, not, cond, List, [], ◌∷◌, map, length, Option, Some, None, refl, sym, ap, subst, ◌∙◌, arith, length-append}
 use Rattle.std.specs.FinMap.{get, insert, empty}
 use Rattle.nn_base.specs.Paths.{Names, path_cmp, is_under}
+use Rattle.nn_base.specs.Limits.{IsLong, most_nodes, most_blocks, most_blocks_of_file}
+use Rattle.nn_base.proofs.PlainLemmas.{some_is}
 use Rattle.nn_tree.specs.declared.node.Node.{Node}
 use Rattle.nn_tree.specs.Namespace.{Nodes}
 use Rattle.nn_tree.specs.Slots.{of_slots, slot_at}
 use Rattle.nn_tree.specs.Links.{Links, slots, nodes_of, IsTree}
-use Rattle.nn_tree.proofs.LinksLemmas.{paths_total, paths_exact, some_is, differ_slots}
+use Rattle.nn_tree.proofs.LinksLemmas.{paths_total, paths_exact, differ_slots}
 use Rattle.std.specs.Prelude.{sum_by}
 use Rattle.std.specs.Ordering.{eq_by_cmp}
 use Rattle.std.specs.FinMap.{entries, retain_keys, get-retain_keys, get-insert, get-empty}
@@ -76,7 +78,7 @@ at_key m p q node x each ok is =
     ] (sym (get-insert paths_total m p node q) ∙ is)
 
 -- a further node
-pub limits_insert : (m : Nodes) (p : Names) (node : Node) → IsWithinLimits m → get m p ≡ None → IsNode node → node_count m < 1048576 → block_count m + length (blocks_of node.kind) ≤ 8388608 → IsWithinLimits (insert m p node)
+pub limits_insert : (m : Nodes) (p : Names) (node : Node) → IsWithinLimits m → get m p ≡ None → IsNode node → node_count m < most_nodes → block_count m + length (blocks_of node.kind) ≤ most_blocks → IsWithinLimits (insert m p node)
 limits_insert m p node h none ok nodes blocks = record {
   nodes = let e = total-insert path_cmp paths_total (λ (_ : Names) (_ : Node). 1) m p node none in omega arith;
   blocks = let e = total-insert path_cmp paths_total (λ (_ : Names) (node : Node). length (blocks_of node.kind)) m p node none in omega arith;
@@ -84,7 +86,7 @@ limits_insert m p node h none ok nodes blocks = record {
 }
 
 -- another node at a path
-pub limits_change_at : (m : Nodes) (p : Names) (f : Node → Node) (node : Node) → IsWithinLimits m → get m p ≡ Some node → IsNode (f node) → block_count m + length (blocks_of (f node).kind) ≤ 8388608 + length (blocks_of node.kind) → IsWithinLimits (change_at p f m)
+pub limits_change_at : (m : Nodes) (p : Names) (f : Node → Node) (node : Node) → IsWithinLimits m → get m p ≡ Some node → IsNode (f node) → block_count m + length (blocks_of (f node).kind) ≤ most_blocks + length (blocks_of node.kind) → IsWithinLimits (change_at p f m)
 limits_change_at m p f node h is ok blocks =
     subst IsWithinLimits (sym (ap (λ o. elim o as (λ _. Nodes) [ None ↦ m | Some x ↦ insert m p (f x) ]) is)) (record {
       nodes = let n = h.nodes in let e = total-insert_old path_cmp paths_total paths_exact (λ (_ : Names) (_ : Node). 1) m p (f node) node is in omega arith;
@@ -93,7 +95,7 @@ limits_change_at m p f node h is ok blocks =
     })
 
 -- one block more in a file
-block_is_kind : (block : Block) (kind : Kind) → IsKind kind → IsBlock block → length (blocks_of kind) < 10000 → IsKind (add_block block kind)
+block_is_kind : (block : Block) (kind : Kind) → IsKind kind → IsBlock block → length (blocks_of kind) < most_blocks_of_file → IsKind (add_block block kind)
 block_is_kind block (File replication is_open blocks) h ok few = record {
   replicated = λ r is. h.replicated r is;
   few = omega (arith, length-append blocks (block ∷ []));
@@ -107,7 +109,7 @@ one_block_more : (block : Block) (kind : Kind) → length (blocks_of (add_block 
 one_block_more block (File replication is_open blocks) = omega (arith, length-append blocks (block ∷ []))
 one_block_more block (Dir quota) = omega arith
 
-pub limits_block : (m : Nodes) (p : Names) (block : Block) (node : Node) → IsWithinLimits m → get m p ≡ Some node → IsBlock block → length (blocks_of node.kind) < 10000 → block_count m < 8388608 → IsWithinLimits (change_at p (with_block block) m)
+pub limits_block : (m : Nodes) (p : Names) (block : Block) (node : Node) → IsWithinLimits m → get m p ≡ Some node → IsBlock block → length (blocks_of node.kind) < most_blocks_of_file → block_count m < most_blocks → IsWithinLimits (change_at p (with_block block) m)
 limits_block m p block node h is ok few room =
     let old = h.each p node is in
     limits_change_at m p (with_block block) node h is
@@ -115,7 +117,7 @@ limits_block m p block node h is ok few room =
     (let one = one_block_more block node.kind in omega arith)
 
 -- an earlier or later time of a node
-pub limits_time : (m : Nodes) (p : Names) (time : ℕ) (node : Node) → IsWithinLimits m → get m p ≡ Some node → time < 2 ^ 63 → IsWithinLimits (change_at p (changed (Time time)) m)
+pub limits_time : (m : Nodes) (p : Names) (time : ℕ) (node : Node) → IsWithinLimits m → get m p ≡ Some node → IsLong time → IsWithinLimits (change_at p (changed (Time time)) m)
 limits_time m p time node h is ok =
     let old = h.each p node is in
     let most = h.blocks in

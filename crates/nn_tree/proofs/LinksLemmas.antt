@@ -1,5 +1,5 @@
 -- What the places of a tree and its map have in common.
-use Rattle.std.proofs.Common.{◌≡◌, ℕ, zero, suc, ◌<◌, ◌≤◌, true, false, [], ◌∷◌, ◌++◌, inl, inr, length, Option, Some, None, refl, sym, ap, subst, ◌∙◌, arith, length-append, is_some, unwrap_or}
+use Rattle.std.proofs.Common.{◌≡◌, ℕ, zero, suc, ◌<◌, ◌≤◌, true, false, [], ◌∷◌, ◌++◌, inl, inr, length, Some, None, refl, sym, ap, subst, ◌∙◌, arith, length-append, unwrap_or}
 use Rattle.std.specs.Prelude.{option_and_then, option_map}
 use Rattle.std.specs.Option.{option_map_or}
 use Rattle.std.specs.Cmp.{IsTotalOrder, nat_cmp_total}
@@ -9,6 +9,7 @@ use Rattle.std.proofs.lemmas.Bool.{cases_lt}
 use Rattle.std.proofs.lemmas.List.{get_or_past, same_from_push}
 use Rattle.std.proofs.lemmas.List.FromFn.{get_or-map-range_with_len, length-map-range_with_len}
 use Rattle.nn_base.specs.Paths.{Names, Bytes, path_cmp, name_cmp, is_name}
+use Rattle.nn_base.proofs.PlainLemmas.{some_is, some_of}
 use Rattle.nn_tree.specs.declared.node.Node.{Node}
 use Rattle.nn_tree.specs.Nodes.{is_dir}
 use Rattle.nn_tree.specs.Namespace.{IsNamespace, is_dir_at}
@@ -28,13 +29,6 @@ names_exact = slice_cmp-IsAntisymmetric nat_cmp-IsAntisymmetric
 
 pub paths_exact : IsAntisymmetric path_cmp
 paths_exact = slice_cmp-IsAntisymmetric names_exact
-
-pub some_is : {A : Type 0} (a b : A) → Some a ≡ Some b → a ≡ b
-some_is a b h = cc
-
-pub some_of : {A : Type 0} (o : Option A) → is_some o ≡ true → (a : A) × (o ≡ Some a)
-some_of None h = cc
-some_of (Some a) h = (a, refl)
 
 -- ---- slots
 

@@ -6,6 +6,7 @@ use Rattle.std.specs.FinMap.{get}
 use Rattle.std.proofs.lemmas.Bool.{cases_eq}
 use Rattle.std.proofs.lemmas.List.{ext_get_or, length-map}
 use Rattle.nn_base.specs.Paths.{Names, is_under, is_name}
+use Rattle.nn_base.proofs.PlainLemmas.{some_is, some_of}
 use Rattle.nn_tree.specs.declared.node.Node.{Node}
 use Rattle.nn_tree.specs.declared.spot.Spot.{Spot}
 use Rattle.nn_tree.specs.Nodes.{is_dir}
@@ -14,7 +15,7 @@ use Rattle.nn_tree.specs.Slots.{of_slots}
 use Rattle.nn_tree.specs.Spots.{Keeps}
 use Rattle.nn_tree.specs.Links.{Link, Links, up, path_at, slot, slots, nodes_of, IsTree, has_place, place_of}
 use Rattle.nn_tree.proofs.ClimbLemmas.{IsBounded, above, below, root_path, is_live, path_found}
-use Rattle.nn_tree.proofs.LinksLemmas.{paths_total, paths_exact, some_is, some_of, slot_of, slot_is, length_slots, differ_slots, node_found, path_live, path_of_place}
+use Rattle.nn_tree.proofs.LinksLemmas.{paths_total, paths_exact, slot_of, slot_is, length_slots, differ_slots, node_found, path_live, path_of_place}
 use Rattle.nn_tree.specs.Slots.{rekey_slot, Differ}
 use Rattle.nn_tree.specs.Changes.{moved, move}
 use Rattle.nn_tree.proofs.RekeyLemmas.{rekeyed, slot_map}

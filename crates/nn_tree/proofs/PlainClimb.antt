@@ -3,10 +3,12 @@ use Rattle.std.proofs.Common.{◌≡◌, ◌≢◌, ℕ, zero, suc, ◌+◌, ◌
 use Rattle.std.specs.Option.{option_map_or}
 use Rattle.std.proofs.Math.ListN.{get_or}
 use Rattle.nn_base.specs.Paths.{Names, is_under}
+use Rattle.nn_base.specs.Limits.{most_blocks}
+use Rattle.nn_base.proofs.PlainLemmas.{some_is, some_of}
 use Rattle.nn_tree.specs.declared.node.Node.{Node}
 use Rattle.nn_tree.specs.Links.{Link, Links, up, path_at, slot, slots, nodes_of, IsTree, has_place, place_of}
 use Rattle.nn_tree.proofs.ClimbLemmas.{above, root_path, path_found}
-use Rattle.nn_tree.proofs.LinksLemmas.{paths_total, paths_exact, some_is, some_of, slot_empty, slot_of, differ_slots, node_found, path_of_place}
+use Rattle.nn_tree.proofs.LinksLemmas.{paths_total, paths_exact, slot_empty, slot_of, differ_slots, node_found, path_of_place}
 use Rattle.std.proofs.Common.{nat_eq, add-zero}
 use Rattle.std.specs.Prelude.{slice_get, sum_by}
 use Rattle.std.specs.List.{range_with_len}
@@ -133,7 +135,7 @@ part_of_sum f k n (suc m) =
 
 -- so the blocks that were counted, and one entry's more, are within the limit
 pub few_blocks : (es : List Entry) (i n k : ℕ) → IsTree (links_of es) → IsWithinLimits (nodes_of (links_of es)) → i < length es
-    → n + k ≡ sum_by (slot_share (λ p node. length (blocks_of node.kind))) (map (slot (links_of es)) (range_with_len 0 (i + 1))) → n + k ≤ 8388608
+    → n + k ≡ sum_by (slot_share (λ p node. length (blocks_of node.kind))) (map (slot (links_of es)) (range_with_len 0 (i + 1))) → n + k ≤ most_blocks
 few_blocks es i n k t limits within sum =
     let f = λ (p : Names) (node : Node). length (blocks_of node.kind) in
     let part = part_of_sum (slot_share f) (slot (links_of es)) (i + 1) (length es - (i + 1)) in

@@ -5,13 +5,14 @@ use Rattle.std.specs.Option.{option_map_or}
 use Rattle.std.proofs.Math.ListN.{get_or, set, length-set}
 use Rattle.nn_base.specs.Paths.{Bytes}
 use Rattle.nn_tree.specs.Links.{Link, IsTree, has_place}
-use Rattle.nn_tree.proofs.LinksLemmas.{some_is, path_live, link_there}
+use Rattle.nn_tree.proofs.LinksLemmas.{path_live, link_there}
 use Rattle.std.specs.Prelude.{slice_get, ◌||◌}
 use Rattle.std.specs.List.{list_any, position, position_from}
 use Rattle.std.proofs.lemmas.Iterator.Adapters.{position_from-zero}
 use Rattle.std.proofs.lemmas.Option.{slice_get_read}
 use Rattle.std.specs.Ordering.{is_lt}
 use Rattle.nn_base.specs.Paths.{name_cmp}
+use Rattle.nn_base.proofs.PlainLemmas.{some_is}
 use Rattle.nn_tree.specs.declared.entry.Entry.{Entry}
 use Rattle.nn_tree.specs.Plain.{name_of, link_of, links_of, is_later, is_later_link, name_at, IsLeast}
 use Rattle.nn_tree.proofs.LeastLemmas.{least_first, least_better, least_worse}

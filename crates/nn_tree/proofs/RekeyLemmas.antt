@@ -1,20 +1,13 @@
 -- A map whose keys are changed, told by slots.
-use Rattle.std.proofs.Common.{◌≡◌, ℕ, zero, suc, Bool, true, false, T, List, [], ◌∷◌, map, Option, Some, None, refl, sym, ap, subst, ◌∙◌, ◌&&◌}
+use Rattle.std.proofs.Common.{◌≡◌, ℕ, zero, suc, T, List, [], ◌∷◌, map, Option, Some, None, refl, sym, ap, subst, ◌∙◌}
 use Rattle.std.specs.declared.cmp.Ordering.{Ordering}
 use Rattle.std.specs.Ordering.{is_lt}
 use Rattle.std.specs.Cmp.{IsTotalOrder, tied_itself}
 use Rattle.std.specs.FinMap.{FinMap, get, insert, entries, entries_sorted, from_entries, get-from_entries, get-entries, is_sorted, IsAntisymmetric, same_map}
 use Rattle.std.specs.FinMap.Entries.{below_all}
+use Rattle.nn_base.proofs.PlainLemmas.{some_is, both_true}
 use Rattle.nn_tree.specs.Slots.{of_slots, slot_at, rekey_slot, Differ}
 use Rattle.nn_tree.proofs.SlotsLemmas.{hit, found}
-
-first_so : (a b : Bool) → T (a && b) → T a
-first_so true b h = tt
-first_so false b h = h
-
-second_so : (a b : Bool) → T (a && b) → T b
-second_so true b h = h
-second_so false b h = absurd h
 
 pub slot_map : {K X : Type 0} (f : K → K) (s : List (Option (K × X))) (i : ℕ) → slot_at (map (rekey_slot f) s) i ≡ rekey_slot f (slot_at s i)
 slot_map f [] i = refl
@@ -26,9 +19,6 @@ rekeyed_from f None q x h = cc
 rekeyed_from {K = K} {X = X} f (Some e) q x h =
     let p : ◌≡◌ {A = K × X} (f e.0, e.1) (q, x) = some_is _ _ h in
     (e.0, (λ i. Some (e.0, (p i).1)), ap (λ t. t.0) p)
-  where
-    some_is : {A : Type 0} (a b : A) → Some a ≡ Some b → a ≡ b
-    some_is a b h = cc
 
 not_below : {K : Type 0} {R : K → K → Ordering} → IsTotalOrder R → (k l : K) → k ≡ l → T (is_lt (R k l)) → ⊥
 not_below {R = R} o k l e h = subst (λ r. T (is_lt r)) (ap (R k) (sym e) ∙ tied_itself o k) h
@@ -43,15 +33,15 @@ module _ {K X : Type 0} {R : K → K → Ordering} (o : IsTotalOrder R) (same : 
   -- the entries of a map, as slots, differ
   below_at : (k : K) (es : List (K × X)) (i : ℕ) (e : K × X) → T (below_all R k es) → slot_at (map Some es) i ≡ Some e → T (is_lt (R k e.0))
   below_at k [] i e h is = cc
-  below_at k (d ∷ es) zero e h is = let p : d ≡ e = cc in subst (λ (e : K × X). T (is_lt (R k e.0))) p (first_so _ _ h)
-  below_at k (d ∷ es) (suc i) e h is = below_at k es i e (second_so _ _ h) is
+  below_at k (d ∷ es) zero e h is = let p : d ≡ e = cc in subst (λ (e : K × X). T (is_lt (R k e.0))) p (both_true _ _ h).0
+  below_at k (d ∷ es) (suc i) e h is = below_at k es i e (both_true _ _ h).1 is
 
   pub sorted_differ : (es : List (K × X)) → T (is_sorted R es) → Differ (map Some es)
   sorted_differ [] h i j a b p q k = cc
   sorted_differ (e ∷ es) h zero zero a b p q k = refl
-  sorted_differ (e ∷ es) h zero (suc j) a b p q k = let x : e ≡ a = cc in absurd (not_below o e.0 b.0 (ap (λ e. e.0) x ∙ k) (below_at e.0 es j b (first_so _ _ h) q))
-  sorted_differ (e ∷ es) h (suc i) zero a b p q k = let x : e ≡ b = cc in absurd (not_below o e.0 a.0 (ap (λ e. e.0) x ∙ sym k) (below_at e.0 es i a (first_so _ _ h) p))
-  sorted_differ (e ∷ es) h (suc i) (suc j) a b p q k = ap suc (sorted_differ es (second_so _ _ h) i j a b p q k)
+  sorted_differ (e ∷ es) h zero (suc j) a b p q k = let x : e ≡ a = cc in absurd (not_below o e.0 b.0 (ap (λ e. e.0) x ∙ k) (below_at e.0 es j b (both_true _ _ h).0 q))
+  sorted_differ (e ∷ es) h (suc i) zero a b p q k = let x : e ≡ b = cc in absurd (not_below o e.0 a.0 (ap (λ e. e.0) x ∙ sym k) (below_at e.0 es i a (both_true _ _ h).0 p))
+  sorted_differ (e ∷ es) h (suc i) (suc j) a b p q k = ap suc (sorted_differ es (both_true _ _ h).1 i j a b p q k)
 
   pub of_entries : (es : List (K × X)) → from_entries {R = R} es ≡ of_slots (map Some es)
   unfolding of_slots

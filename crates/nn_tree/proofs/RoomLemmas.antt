@@ -7,9 +7,9 @@ use Rattle.std.proofs.Math.ListN.{set}
 use Rattle.std.proofs.lemmas.Bool.{cases_eq}
 use Rattle.std.proofs.lemmas.Bool.Decides.{nat_tests}
 use Rattle.std.proofs.lemmas.Option.{slice_get_within}
+use Rattle.nn_base.proofs.PlainLemmas.{some_is}
 use Rattle.nn_tree.specs.declared.entry.Entry.{Entry}
 use Rattle.nn_tree.specs.Plain.{is_free, blocks_in, blocks_in_at, has_block_room, climbs_to, cut_entry, IsCutOf}
-use Rattle.nn_tree.proofs.LinksLemmas.{some_is}
 use Rattle.nn_tree.proofs.PlainLemmas.{slice_set_same, slice_set_other}
 
 -- ---- one entry is written

@@ -3,19 +3,15 @@ use Rattle.std.proofs.Common.{◌≡◌, ◌≢◌, ℕ, zero, suc, ◌+◌, ◌
 use Rattle.std.specs.Prelude.{sum_by}
 use Rattle.std.proofs.Math.ListN.{set}
 use Rattle.std.specs.declared.cmp.Ordering.{Ordering}
-use Rattle.std.specs.declared.cmp.Ordering.TheVariants.{Less, Equal, Greater}
-use Rattle.std.specs.Ordering.{is_eq, eq_by_cmp}
+use Rattle.std.specs.Ordering.{eq_by_cmp}
 use Rattle.std.specs.Cmp.{IsTotalOrder, eq_by_cmp_equiv}
 use Rattle.std.specs.FinMap.{FinMap, get, insert, empty, get-insert, get-empty, IsAntisymmetric, same_map, entries, len-empty, len-entries}
 use Rattle.std.proofs.lemmas.List.Sums.{sum_by-cons}
+use Rattle.std.proofs.lemmas.List.{nil_from_length}
+use Rattle.nn_base.proofs.PlainLemmas.{is_equal}
 use Rattle.nn_tree.specs.Totals.{total}
 use Rattle.nn_tree.specs.Slots.{of_slots, slot_at, slot_share, Differ}
 use Rattle.nn_tree.proofs.TotalsLemmas.{total-insert}
-
-is_equal : (r : Ordering) → is_eq r ≡ true → r ≡ Equal
-is_equal Less h = cc
-is_equal Equal h = refl
-is_equal Greater h = cc
 
 module _ {K : Type 0} {R : K → K → Ordering} (o : IsTotalOrder R) (same : IsAntisymmetric R) where
   pub ties : (q k : K) → eq_by_cmp R q k ≡ true → q ≡ k
@@ -24,12 +20,8 @@ module _ {K : Type 0} {R : K → K → Ordering} (o : IsTotalOrder R) (same : Is
 pub itself : {K : Type 0} {R : K → K → Ordering} → IsTotalOrder R → (q : K) → eq_by_cmp R q q ≡ true
 itself o q = (eq_by_cmp_equiv o).refl q
 
-nil_of_length : {A : Type 0} (es : List A) → length es ≡ 0 → es ≡ []
-nil_of_length [] e = refl
-nil_of_length (x ∷ es) e = absurd (omega arith)
-
 pub total-empty : {K X : Type 0} (R : K → K → Ordering) (f : K → X → ℕ) → total f (empty {X = X} {R = R}) ≡ 0
-total-empty {X = X} R f = ap (sum_by (λ e. f e.0 e.1)) (nil_of_length (entries (empty {X = X} {R = R})) (sym (len-entries empty) ∙ len-empty R X))
+total-empty {X = X} R f = ap (sum_by (λ e. f e.0 e.1)) (nil_from_length (entries (empty {X = X} {R = R})) (sym (len-entries empty) ∙ len-empty R X))
 
 module _ {K X : Type 0} {R : K → K → Ordering} (o : IsTotalOrder R) (same : IsAntisymmetric R) where
   pub insert_swap : (m : FinMap R X) (k a : K) (x v : X) → eq_by_cmp R k a ≡ false → insert (insert m k x) a v ≡ insert (insert m a v) k x

@@ -3,21 +3,15 @@ use Rattle.std.proofs.Common.{◌≡◌, ◌≢◌, ℕ, zero, suc, ◌+◌, ◌
 use Rattle.std.specs.Prelude.{slice_get, count_by}
 use Rattle.std.specs.Ordering.{is_lt, is_eq, ordering_reverse, eq_by_cmp}
 use Rattle.std.specs.declared.cmp.Ordering.{Ordering}
-use Rattle.std.specs.declared.cmp.Ordering.TheVariants.{Less, Equal, Greater}
+use Rattle.std.specs.declared.cmp.Ordering.TheVariants.{Less, Greater}
 use Rattle.std.specs.Cmp.{IsTotalOrder, tied_itself}
 use Rattle.std.specs.FinMap.{IsAntisymmetric}
 use Rattle.std.specs.FinMap.Entries.{find, is_sorted, below_all}
 use Rattle.std.proofs.lemmas.Bool.{cases_lt, cases_eq}
 use Rattle.std.proofs.lemmas.List.Sums.{sum_by-cons}
 use Rattle.std.proofs.lemmas.Option.{slice_get-get_or, slice_get_within}
+use Rattle.nn_base.proofs.PlainLemmas.{some_is, is_equal, is_less}
 use Rattle.nn_tree.proofs.FindLemmas.{first_so, second_so}
-use Rattle.nn_tree.proofs.LeastLemmas.{less_than}
-use Rattle.nn_tree.proofs.LinksLemmas.{some_is}
-
-is_equal : (r : Ordering) → is_eq r ≡ true → r ≡ Equal
-is_equal Less h = cc
-is_equal Equal h = refl
-is_equal Greater h = cc
 
 module _ {K : Type 0} {R : K → K → Ordering} (o : IsTotalOrder R) where
   back : (x y : K) → R x y ≡ Less → R y x ≡ Greater
@@ -32,7 +26,7 @@ module _ {K : Type 0} {R : K → K → Ordering} (o : IsTotalOrder R) where
 module _ {K X : Type 0} {R : K → K → Ordering} (o : IsTotalOrder R) where
   above_all : (x : K) (es : List (K × X)) (k : ℕ) (e : K × X) → below_all R x es ≡ true → slice_get es k ≡ Some e → R x e.0 ≡ Less
   above_all x [] k e h at = cc
-  above_all x (f ∷ es) zero e h at = subst (λ (e : K × X). R x e.0 ≡ Less) (some_is f e at) (less_than _ (first_so _ _ h))
+  above_all x (f ∷ es) zero e h at = subst (λ (e : K × X). R x e.0 ≡ Less) (some_is f e at) (is_less _ (first_so _ _ h))
   above_all x (f ∷ es) (suc k) e h at = above_all x es k e (second_so (is_lt (R x f.0)) _ h) at
 
   pub rises : (es : List (K × X)) (i j : ℕ) (e f : K × X) → is_sorted R es ≡ true → slice_get es i ≡ Some e → slice_get es j ≡ Some f → i < j → R e.0 f.0 ≡ Less
@@ -46,7 +40,7 @@ module _ {K X : Type 0} {R : K → K → Ordering} (o : IsTotalOrder R) where
   none_before x [] h = refl
   none_before x (f ∷ es) h =
       sum_by-cons (λ e. cond (is_lt (R e.0 x)) 1 0) f es
-      ∙ ap (λ r. cond (is_lt r) 1 0 + count_by (λ e. is_lt (R e.0 x)) es) (back o x f.0 (less_than _ (first_so _ _ h)))
+      ∙ ap (λ r. cond (is_lt r) 1 0 + count_by (λ e. is_lt (R e.0 x)) es) (back o x f.0 (is_less _ (first_so _ _ h)))
       ∙ ap (λ n. 0 + n) (none_before x es (second_so (is_lt (R x f.0)) _ h))
 
   pub count_at : (es : List (K × X)) (k : ℕ) (e : K × X) → is_sorted R es ≡ true → slice_get es k ≡ Some e → count_by (λ f. is_lt (R f.0 e.0)) es ≡ k

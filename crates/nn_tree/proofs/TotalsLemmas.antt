@@ -9,15 +9,8 @@ use Rattle.std.specs.Cmp.{IsTotalOrder}
 use Rattle.std.specs.FinMap.{FinMap, entries, entries_sorted, get, insert, put, find, is_sorted, entries-insert, get-entries, IsAntisymmetric, retain_keys, get-retain_keys, from_sorted, entries-from_sorted, get-from_sorted, same_map}
 use Rattle.std.specs.FinMap.Entries.{by_order, below_all, where_key, is_sorted-where_key, find-where_key}
 use Rattle.std.proofs.lemmas.List.Sums.{sum_by-cons}
+use Rattle.nn_base.proofs.PlainLemmas.{both_true}
 use Rattle.nn_tree.specs.Totals.{total}
-
-left : (a b : Bool) → T (a && b) → T a
-left true b h = tt
-left false b h = h
-
-right : (a b : Bool) → T (a && b) → T b
-right true b h = h
-right false b h = absurd h
 
 both : (a b : Bool) → T a → T b → T (a && b)
 both true b p q = q
@@ -50,25 +43,25 @@ module _ {K X : Type 0} (R : K → K → Ordering) where
   module _ (o : IsTotalOrder R) where
     below_less : (x y : K) (es : List (K × X)) → R x y ≡ Less → T (below_all R y es) → T (below_all R x es)
     below_less x y [] p h = tt
-    below_less x y (e ∷ es) p h = both _ _ (subst (λ r. T (is_lt r)) (sym (o.trans x y e.0 p (is_less _ (left _ _ h)))) tt) (below_less x y es p (right _ _ h))
+    below_less x y (e ∷ es) p h = both _ _ (subst (λ r. T (is_lt r)) (sym (o.trans x y e.0 p (is_less _ (both_true _ _ h).0))) tt) (below_less x y es p (both_true _ _ h).1)
 
     find_below : (q : K) (es : List (K × X)) → T (below_all R q es) → find R q es ≡ None
     find_below q [] h = refl
-    find_below q (e ∷ es) h = ap (λ r. cond (is_eq r) (Some e.1) (find R q es)) (is_less _ (left _ _ h)) ∙ find_below q es (right _ _ h)
+    find_below q (e ∷ es) h = ap (λ r. cond (is_eq r) (Some e.1) (find R q es)) (is_less _ (both_true _ _ h).0) ∙ find_below q es (both_true _ _ h).1
 
     -- at a key that is there, the new value's takes the old one's place
     of_all-put_old : IsAntisymmetric R → (f : K → X → ℕ) (k : K) (v x : X) (es : List (K × X)) → T (is_sorted R es) → find R k es ≡ Some x → of_all f (put R k v es) + f k x ≡ f k v + of_all f es
     of_all-put_old same f k v x [] h is = cc
     of_all-put_old same f k v x (e ∷ es) h is =
         elim (R k e.0) as (λ r. R k e.0 ≡ r → cond (is_eq r) (Some e.1) (find R k es) ≡ Some x → of_all f (by_order r ((k, v) ∷ e ∷ es) ((e.0, v) ∷ es) (e ∷ put R k v es)) + f k x ≡ f k v + (f e.0 e.1 + of_all f es)) [
-          | Less ↦ λ p is. let none = find_below k es (below_less k e.0 es p (left _ _ h)) in cc
+          | Less ↦ λ p is. let none = find_below k es (below_less k e.0 es p (both_true _ _ h).0) in cc
           | Equal ↦ λ p is.
               let key : k ≡ e.0 = same _ _ p in
               let value : e.1 ≡ x = cc in
               let a : f e.0 v ≡ f k v = cc in
               let b : f k x ≡ f e.0 e.1 = cc in
               omega arith
-          | Greater ↦ λ p is. omega (arith, of_all-put_old same f k v x es (right _ _ h) is)
+          | Greater ↦ λ p is. omega (arith, of_all-put_old same f k v x es (both_true _ _ h).1 is)
         ] refl is
 
     pub total-insert : (f : K → X → ℕ) (m : FinMap R X) (k : K) (v : X) → get m k ≡ None → total f (insert m k v) ≡ f k v + total f m

@@ -1,8 +1,9 @@
 -- The limits of a namespace, and the ranges of the numbers in it.
-use Rattle.std.specs.Prelude.{◌≡◌, ◌<◌, ◌≤◌, ◌^◌, length, All, Some}
+use Rattle.std.specs.Prelude.{◌≡◌, ◌<◌, ◌≤◌, length, All, Some}
 use Rattle.std.specs.Option.{ForSome}
 use Rattle.std.specs.FinMap.{get}
 use Rattle.nn_base.specs.Paths.{Names}
+use Rattle.nn_base.specs.Limits.{IsLong, most_mode, most_nodes, most_blocks, most_blocks_of_file, most_block_length, most_replication}
 use Rattle.nn_tree.specs.declared.node.Block.{Block}
 use Rattle.nn_tree.specs.declared.node.Kind.{Kind}
 use Rattle.nn_tree.specs.declared.node.Node.{Node}
@@ -10,35 +11,33 @@ use Rattle.nn_tree.specs.declared.node.Counters.{Counters}
 use Rattle.nn_tree.specs.Nodes.{blocks_of, replication_of, quota_of}
 use Rattle.nn_tree.specs.Namespace.{Nodes, node_count, block_count}
 
--- a block of 1 to 2^40 bytes
+-- a block of one byte or more
 pub record IsBlock (block : Block) : Type 0 where
-  pub id : block.id < 2 ^ 63
-  pub stamp : block.stamp < 2 ^ 63
+  pub id : IsLong block.id
+  pub stamp : IsLong block.stamp
   pub some : 0 < block.length
-  pub few : block.length ≤ 2 ^ 40
+  pub few : block.length ≤ most_block_length
 
--- a replication is 1 to 512, and a file has at most 10,000 blocks
+-- a file is replicated once or more; ids, stamps, times and quotas are longs
 pub record IsKind (kind : Kind) : Type 0 where
-  pub replicated : ForSome (replication_of kind) (λ r. (0 < r) × (r ≤ 512))
-  pub few : length (blocks_of kind) ≤ 10000
+  pub replicated : ForSome (replication_of kind) (λ r. (0 < r) × (r ≤ most_replication))
+  pub few : length (blocks_of kind) ≤ most_blocks_of_file
   pub blocks : All IsBlock (blocks_of kind)
-  pub names : ForSome (quota_of kind).names (λ n. n < 2 ^ 63)
-  pub space : ForSome (quota_of kind).space (λ n. n < 2 ^ 63)
+  pub names : ForSome (quota_of kind).names IsLong
+  pub space : ForSome (quota_of kind).space IsLong
 
--- a mode is at most 1777 (octal)
 pub record IsNode (node : Node) : Type 0 where
-  pub id : node.id < 2 ^ 63
-  pub mode : node.mode ≤ 1023
-  pub time : node.time < 2 ^ 63
+  pub id : IsLong node.id
+  pub mode : node.mode ≤ most_mode
+  pub time : IsLong node.time
   pub kind : IsKind node.kind
 
--- at most 1,048,576 nodes and 8,388,608 blocks
 pub record IsWithinLimits (m : Nodes) : Type 0 where
-  pub nodes : node_count m ≤ 1048576
-  pub blocks : block_count m ≤ 8388608
+  pub nodes : node_count m ≤ most_nodes
+  pub blocks : block_count m ≤ most_blocks
   pub each : (p : Names) (node : Node) → get m p ≡ Some node → IsNode node
 
 pub record IsCounters (counters : Counters) : Type 0 where
-  pub inode : counters.inode < 2 ^ 63
-  pub block : counters.block < 2 ^ 63
-  pub stamp : counters.stamp < 2 ^ 63
+  pub inode : IsLong counters.inode
+  pub block : IsLong counters.block
+  pub stamp : IsLong counters.stamp

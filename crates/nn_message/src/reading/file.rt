@@ -11,7 +11,7 @@ ghost use Rattle.nn_message.specs.Views as views;
 use crate::message::Attributes;
 use crate::reading::fields::{is_next, take_bytes, take_long, take_number};
 use crate::view::KindView;
-use nn_base::limits::{MOST_BLOCK_LENGTH, MOST_BLOCKS_OF_FILE, MOST_REPLICATION};
+use nn_base::limits::{MOST_BLOCK_LENGTH, MOST_BLOCKS_OF_FILE, MOST_MODE, MOST_REPLICATION};
 use nn_tree::Block;
 
 /// The key of a block in a file: a field of bytes, of number 6.
@@ -19,9 +19,6 @@ const BLOCK: u8 = 50;
 
 /// The key of the mark that a file is open: a number, of field 7.
 const OPEN: u8 = 56;
-
-/// The most that a mode may be: the sticky bit and nine permissions.
-const GREATEST_MODE: u64 = 0o1777;
 
 #[tactic(auto, unfolding(crate::specs::MessageReading::block_length_at))]
 fn take_length(rest: &mut &[u8]) -> Option<u64>
@@ -91,7 +88,7 @@ fn take_mode(number: u32, rest: &mut &[u8]) -> Option<u16>
     ensures { reading.Gives result rest.new.now (messages.mode_at number rest.old.now) }
 {
     let mode = take_number(number, rest)?;
-    if mode > GREATEST_MODE {
+    if mode > u64::from(MOST_MODE) {
         return None;
     }
     Some(mode as u16)

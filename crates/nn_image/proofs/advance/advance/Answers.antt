@@ -1,8 +1,8 @@
 use Rattle.std.proofs.Common.{◌++◌, ◌+◌, [], length, Some, None, refl, sym, ap, subst, ◌∙◌}
 use Rattle.std.specs.FinMap.{get}
+use Rattle.nn_base.proofs.PlainLemmas.{some_of}
 use Rattle.nn_message.specs.Frame.{end, summary_message, summary_with}
 use Rattle.nn_tree.specs.Below.{IsNextBelow}
-use Rattle.nn_tree.proofs.LinksLemmas.{some_of}
 use Rattle.nn_image.specs.declared.task.Stage.TheVariants.{Front, Strings, Inodes, Directories, Done}
 use Rattle.nn_message.specs.declared.summary.Lengths.{Lengths}
 use Rattle.nn_image.specs.Saving.{Target, IsStage, AreCounted}

@@ -1,6 +1,6 @@
 use Rattle.std.proofs.Common.{refl, sym}
+use Rattle.nn_base.proofs.PlainLemmas.{some_is}
 use Rattle.nn_image.proofs.LoadLemmas.{info_there}
-use Rattle.nn_message.proofs.SpellsLemmas.{some_is}
 use Rattle.nn_image.proofs.loading.whole_info.Goals as goal
 
 pub returns-in_err-info-clause-none : goal.returns-in_err-info-clause-none

@@ -14,7 +14,7 @@ pub returns-then-place-offset-clause-none : goal.returns-then-place-offset-claus
 returns-then-place-offset-clause-none c = λ part left after text places.
     let same = claimed_place c.args.text.now.now c.args.places.now.now c.args.name.now part left after c.take_place.new.rest.now c.args.offset (seen c.in_ok-place.place) (omega arith) (omega arith) c.ranges.offset.fits c.in_ok-place.ensures.some.0
     c.in_ok-place.ensures.some.1 text places in
-    c.if-place-offset.true (ap (λ (s : Section). s.offset) same)
+    omega (arith, c.if-place-offset.true, ap (λ (s : Section). s.offset) same)
 
 pub returns-then-place-text-clause-none : goal.returns-then-place-text-clause-none
 returns-then-place-text-clause-none c = λ part left after text places.

@@ -1,4 +1,5 @@
 use Rattle.std.proofs.Common.{◌-◌}
+use Rattle.nn_base.specs.Limits.{most_levels}
 use Rattle.nn_ops.proofs.ShortLemmas.{SoFar, behind, IsChild}
 use Rattle.nn_ops.proofs.rename.+below_is_short.Given as goal
 
@@ -12,4 +13,4 @@ abbrev pub decreases-loop-next : goal.decreases-loop-next
 decreases-loop-next g l = behind (g.T.Tree.place l.tree) (g.T.Tree.meaning l.tree).nodes l.next
 
 abbrev pub decreases-below_is_short : goal.decreases-below_is_short
-decreases-below_is_short g l = 1000 - l.levels
+decreases-below_is_short g l = most_levels - l.levels

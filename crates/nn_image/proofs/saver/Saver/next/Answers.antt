@@ -1,4 +1,5 @@
 use Rattle.std.proofs.Common.{◌≡◌, ◌++◌, length, min, sym, ap, subst, ◌∙◌, arith}
+use Rattle.nn_base.specs.Limits.{most_piece}
 use Rattle.nn_image.specs.Saving.{Saves, left}
 use Rattle.nn_image.proofs.SaverLemmas.{given_saves, given_left, none_left, full_piece, last_piece}
 use Rattle.nn_image.proofs.saver.Saver.next.Goals.{then-self-len+else-is_done+in_ok-refill, else-self-len, else-piece-test, then-piece-test+then-self-len+then-is_done}
@@ -31,7 +32,7 @@ returns-clause-len g c =
     let place = g.T.Tree.place c.args.tree.now in
     let front = left c.args.self.now ns has place in
     let rest = left c.piece.self ns has place in
-    elim c.piece-test.branch as (λ _. length c.piece.out.items ≡ min 65536 (length front)) [
+    elim c.piece-test.branch as (λ _. length c.piece.out.items ≡ min most_piece (length front)) [
       | else-piece-test w ↦ full_piece front c.piece.out.items rest c.piece.invariant.left (omega (arith, w.piece-test.false, c.len.ensures, c.piece.out.ok.0)) c.piece.invariant.room
       | then-piece-test+then-self-len+then-is_done w ↦ last_piece front c.piece.out.items rest c.piece.invariant.left (none_left ns has place c.piece.self (omega (arith, w.if-self-len.true, w.len-in-piece.ensures, c.piece.self.message.ok.0)) (w.is_done.ensures.done w.if-is_done.true)) c.piece.invariant.room
     ]

@@ -1,10 +1,10 @@
 use Rattle.std.proofs.Common.{◌≡◌, ◌≢◌, false, Option, Some, None, is_some, sym, ◌∙◌, arith}
 use Rattle.nn_base.specs.Paths.{Bytes}
+use Rattle.nn_base.proofs.PlainLemmas.{some_of}
 use Rattle.nn_message.specs.Messages.{Content, IsContent}
 use Rattle.nn_message.specs.Frame.{Sections, sections_of}
 use Rattle.nn_message.specs.Reading.{whole}
 use Rattle.nn_message.specs.MessageReading.{info_section_at, strings_section_at, inodes_section_at, directories_section_at}
-use Rattle.nn_message.proofs.SpellsLemmas.{some_of}
 use Rattle.nn_message.proofs.SpelledContentLemmas.{AreShort, content_again, content_exact}
 use Rattle.nn_message.proofs.reading.check.check_messages.Goals as goal
 

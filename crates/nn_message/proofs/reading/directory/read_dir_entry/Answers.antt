@@ -2,11 +2,12 @@ use Rattle.std.proofs.Common.{◌≡◌, ℕ, List, length, true, Some, eqb, ref
 use Rattle.std.specs.List.{flat_map, All}
 use Rattle.nn_base.specs.Limits.{IsLong}
 use Rattle.nn_base.specs.Paths.{Bytes}
+use Rattle.nn_base.proofs.PlainLemmas.{some_of}
 use Rattle.nn_wire.specs.Varint.{varint}
 use Rattle.nn_message.specs.Messages.{DirEntry}
 use Rattle.nn_message.specs.Reading.{bytes_field_at, whole}
 use Rattle.nn_message.specs.MessageReading.{long_at, children_at, dir_entry_at}
-use Rattle.nn_message.proofs.SpellsLemmas.{whole_exact, some_of}
+use Rattle.nn_message.proofs.SpellsLemmas.{whole_exact}
 use Rattle.nn_message.proofs.SpelledContentLemmas.{NoneLeft, Spells-children}
 use Rattle.nn_message.proofs.reading.directory.read_dir_entry.Goals as goal
 
