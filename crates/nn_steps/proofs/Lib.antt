@@ -1,0 +1,5 @@
+pub mod MadeLemmas
+pub mod NormalLemmas
+pub mod PublishedLemmas
+pub mod SeatLemmas
+pub mod RecoveredLemmas

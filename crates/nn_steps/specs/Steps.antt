@@ -1,0 +1,49 @@
+-- What each durable step on a directory keeps: from what it says of the one disk at each moment to what a run keeps of that disk.
+use Rattle.std.specs.Prelude.{◌≡◌, ℕ, ◌<◌, ◌^◌, Bool, false, Option}
+use Rattle.nn_base.specs.Limits.{program_layout}
+use Rattle.nn_host.specs.Disk.{Disk}
+use Rattle.nn_marks.specs.declared.version.Version.{Version}
+use Rattle.nn_state.specs.declared.state.StorageState.TheVariants.{Normal}
+use Rattle.nn_state.specs.Typed.{IsIn, FitsFresh}
+use Rattle.nn_state.specs.Recovery.{KeepsSeat}
+use Rattle.nn_tree.specs.Namespace.{Namespace}
+use Rattle.nn_remake.specs.Made.{IsMade, FreshOrMade}
+use Rattle.nn_remake.specs.Rank.{IsRanked}
+use Rattle.nn_kept.specs.Kept.{Shared, IsKept}
+use Rattle.nn_kept.specs.Laws.{IsOutranked, EachLeft, IsKeptDisk}
+use Rattle.nn_kept.specs.Ends.{EndsBetween, HasRoom}
+
+-- ---- a directory that isn't formatted, or is being made
+
+-- one that isn't formatted is kept
+abbrev pub FreshIsKept : Type 0
+FreshIsKept = (shared : Shared) (d : Disk) → FitsFresh d → IsKeptDisk shared false false d
+
+-- At each moment of its making a directory is kept, where what is shared has its image's namespace at this id and room for it.
+abbrev pub MakingKeeps : Type 0
+MakingKeeps = (shared : Shared) (version : Version) (id : ℕ) (d : Disk) → HasRoom shared version false id id → FreshOrMade version id (shared.ns version.ctime id) d → IsKeptDisk shared false false d
+
+-- Once it is made it ends at its image, without a previous, whatever others have saved.
+abbrev pub MadeEnds : Type 0
+MadeEnds = (version : Version) (id : ℕ) (list : ℕ → Namespace) (what : Option Namespace) (d : Disk) → version.layout ≡ program_layout → id < 2 ^ 62 → IsMade version id (list id) d → EndsBetween version false what list id id d
+
+-- ---- a recovery, or what else keeps the seat
+
+-- At each moment of a recovery a kept directory is kept, and counts as of the run and as a holder if it did before.
+abbrev pub RecoveringKeeps : Type 0
+RecoveringKeeps = (shared : Shared) (of_run holder : Bool) (old d : Disk) → IsKeptDisk shared of_run holder old → KeepsSeat old d → IsKeptDisk shared of_run holder d
+
+-- One that the floor has left behind stays behind.
+abbrev pub RecoveringLeavesBehind : Type 0
+RecoveringLeavesBehind = (shared : Shared) (old d : Disk) → EachLeft old (IsKept shared) → EachLeft old (IsOutranked shared) → KeepsSeat old d → EachLeft d (IsOutranked shared)
+
+-- One that ends somewhere ends there.
+abbrev pub RecoveringEnds : Type 0
+RecoveringEnds = (version : Version) (has : Bool) (what : Option Namespace) (list : ℕ → Namespace) (lo hi : ℕ) (old d : Disk) → EndsBetween version has what list lo hi old → KeepsSeat old d → EndsBetween version has what list lo hi d
+
+-- ---- an image that is published
+
+-- At each moment of the publishing of the image at which its chain ends, a directory goes on to end there.
+abbrev pub PublishingEnds : Type 0
+PublishingEnds = (version : Version) (has : Bool) (what : Option Namespace) (list : ℕ → Namespace) (id : ℕ) (old d : Disk) → IsIn Normal old → EndsBetween version has what list id id old
+    → IsRanked version (record { last = id; ns = list id }) old d → EndsBetween version has what list id id d

@@ -1,0 +1,37 @@
+// What follows from the contracts of the steps on one directory, for the calls that compose them: no call does anything here.
+ghost use Rattle.nn_steps.specs.Steps.{FreshIsKept, MakingKeeps, MadeEnds, RecoveringKeeps, RecoveringLeavesBehind, RecoveringEnds, PublishingEnds};
+
+/// A directory that isn't formatted is kept.
+pub fn a_directory_not_formatted_is_kept()
+    ensures { FreshIsKept }
+{}
+
+/// A directory is kept at each moment of its making.
+pub fn a_directory_in_the_making_is_kept()
+    ensures { MakingKeeps }
+{}
+
+/// A directory that was made ends at its image, with nothing saved.
+pub fn a_made_directory_ends()
+    ensures { MadeEnds }
+{}
+
+/// A kept directory is kept at each moment of a recovery, as one of the run and as a holder if it was one.
+pub fn a_directory_in_recovery_is_kept()
+    ensures { RecoveringKeeps }
+{}
+
+/// A directory that the floor has left behind stays behind at each moment of a recovery.
+pub fn a_directory_in_recovery_stays_behind()
+    ensures { RecoveringLeavesBehind }
+{}
+
+/// A directory ends where it ended at each moment of a recovery.
+pub fn a_directory_in_recovery_ends()
+    ensures { RecoveringEnds }
+{}
+
+/// A directory ends where it ended at each moment of the publishing of the image at which its chain ends.
+pub fn a_directory_published_into_ends()
+    ensures { PublishingEnds }
+{}
