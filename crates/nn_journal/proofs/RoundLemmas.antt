@@ -1,0 +1,178 @@
+-- Rounds until no directory is dropped.
+use Rattle.std.proofs.Common.{◌≡◌, ◌≢◌, ◌⊎◌, inl, inr, ⊎_elim, ℕ, suc, ◌+◌, ◌*◌, ◌<◌, ◌≤◌, ◌==◌, ◌&&◌, not, Bool, true, false, cond, [], refl, sym, ◌∙◌, ap, subst, arith, vec_capacity}
+use mathlib.Core.Bool.{beq}
+use Rattle.std.specs.Cmp.Lexicographic.{pointwise}
+use Rattle.std.proofs.lemmas.Bool.{and_parts}
+use Rattle.std.proofs.lemmas.Bool.Decides.{eqb_tells}
+use Rattle.nn_base.specs.DirSets.{Members, values, has, count_of}
+use Rattle.nn_base.proofs.DirSetLemmas.{same_members, equal_sets, other_sets, fewer, not_more}
+use Rattle.nn_host.specs.Moments.{State, moment}
+use Rattle.nn_journal.specs.Among.{EachCounted}
+use Rattle.nn_journal.specs.Places.{Place, Brings, BringsAhead, HasSettled, Went, most_buffer, most_unended, full_segment, place_of}
+use Rattle.nn_journal.specs.declared.journal.JournalSet.{JournalSet}
+use Rattle.nn_journal.proofs.AllLemmas.{not_true}
+use Rattle.nn_journal.proofs.CarriedLemmas.{still_live}
+use Rattle.nn_journal.proofs.BringsLemmas.{brings_none, brings_both, brings_lower, went_refl, went_both}
+
+-- ---- two sets are compared
+
+not_false : (b : Bool) → not b ≡ false → b ≡ true
+not_false true e = refl
+not_false false e = cc
+
+pub apart_sets : (a b : Members) (same : Bool) → same ≡ pointwise beq (values a) (values b) → not same ≡ true → a ≢ b
+apart_sets a b same is apart = other_sets a b (sym is ∙ not_true same apart)
+
+pub one_set : (a b : Members) (same : Bool) → same ≡ pointwise beq (values a) (values b) → not same ≡ false → a ≡ b
+one_set a b same is one = equal_sets a b (sym is ∙ not_false same one)
+
+-- ---- the rounds so far
+
+-- how low the dropped ones are: strictly below the last id where no round follows
+abbrev pub IsLow : Bool → ℕ → ℕ → Type 0
+IsLow true below last = below ≤ last
+IsLow false below last = below < last
+
+pub record Rolling (told : Type 0) (holders : Members) (p0 : Place) (live0 : Members) (again : Bool) (p : Place) (live : Members) (a b : State) : Type 0 where
+  pub went : Went told live0 live a b
+  pub since : p0.last ≤ p.last
+  pub rose : again ≡ false → p0.last < p.last
+  pub ids : p.last + 2 * count_of live ≤ p0.last + 2 + 2 * count_of live0
+  pub ids_again : again ≡ true → p.last + 2 * count_of live ≤ p0.last + 2 * count_of live0
+  pub low : (below : ℕ) × IsLow again below p.last × Brings told p0 p below holders live0 live a b
+
+rolling_begins : {told : Type 0} {holders live : Members} {p : Place} {a : State} → Rolling told holders p live true p live a a
+rolling_begins {told} {holders} {live} {p} {a} = record {
+  went = went_refl;
+  since = omega arith;
+  rose = λ is. absurd (let apart = is in cc);
+  ids = omega arith;
+  ids_again = λ is. omega arith;
+  low = (p.last, omega arith, brings_none p p.last);
+}
+
+rolling_on : {told : Type 0} {holders live0 live live2 : Members} {p0 p p2 : Place} {a b c : State} → Rolling told holders p0 live0 true p live a b → Brings told p p2 p2.last holders live live2 b c → Went told live live2 b c → p2.last ≡ p.last + 2
+    → (again : Bool) → (again ≡ true → live2 ≢ live) → (again ≡ false → live2 ≡ live) → Rolling told holders p0 live0 again p2 live2 a c
+rolling_on {live = live} {live2 = live2} {p2 = p2} before round went two true apart one =
+    let less : count_of live2 < count_of live = fewer live live2 (still_live went.counted) (apart refl) in
+    let low = before.ids_again refl in
+    record {
+      went = went_both before.went went;
+      since = omega (arith, before.since, two);
+      rose = λ is. omega (arith, before.since, two);
+      ids = omega (arith, less, low, two);
+      ids_again = λ is. omega (arith, less, low, two);
+      low = (p2.last, omega arith, brings_both p2.last (omega (arith, before.low.1, two)) (omega arith) before.low.2 round);
+    }
+rolling_on {live = live} {live2 = live2} {p2 = p2} before round went two false apart one =
+    let same : live2 ≡ live = one refl in
+    let low = before.ids_again refl in
+    record {
+      went = went_both before.went went;
+      since = omega (arith, before.since, two);
+      rose = λ is. omega (arith, before.since, two);
+      ids = omega (arith, ap count_of same, low, two);
+      ids_again = λ is. absurd (let apart = is in cc);
+      low = (before.low.0, omega (arith, before.low.1, two), brings_both before.low.0 (omega arith) (omega arith) before.low.2 (brings_lower before.low.0 same round));
+    }
+
+-- ---- a journal in its rounds
+
+pub record InRounds (told : Type 0) (j0 j : JournalSet) (again : Bool) (a b : State) : Type 0 where
+  pub rolling : Rolling told j0.holders (place_of j0) j0.live again (place_of j) j.live a b
+  pub empty : j.buffer.items ≡ []
+  pub room : most_buffer ≤ vec_capacity j.buffer
+  pub holders : j.holders ≡ j0.holders
+  pub header : j.header ≡ j0.header
+  pub going : j.going ≡ j0.going
+  pub order : j.going ≡ true → j.first ≤ j.last
+  pub small : j.size ≤ most_unended
+  pub below : (i : ℕ) → has j.live i ≡ true → i < b.count
+  pub placed : again ≡ false → (j.first ≤ j.last) × (j.size ≤ full_segment) × (j.going ≡ true → j.first ≡ j.last)
+
+pub rounds_begin : {told : Type 0} {a : State} (j : JournalSet) → ((i : ℕ) → has j.live i ≡ true → i < a.count) → j.buffer.items ≡ [] → most_buffer ≤ vec_capacity j.buffer → (j.going ≡ true → j.first ≤ j.last) → j.size ≤ most_unended → InRounds told j j true a a
+rounds_begin j below empty room order small = record {
+  rolling = rolling_begins;
+  empty = empty;
+  room = room;
+  holders = refl;
+  header = refl;
+  going = refl;
+  order = order;
+  small = small;
+  below = below;
+  placed = λ is. absurd (let apart = is in cc);
+}
+
+module _ {told : Type 0} {j0 j : JournalSet} {again : Bool} {a b c : State} (j2 : JournalSet) (before : InRounds told j0 j again a b) (is : again ≡ true) (round : Brings told (place_of j) (place_of j2) j2.last j.holders j.live j2.live b c) (went : Went told j.live j2.live b c)
+    (place : (j2.going ≡ j.going) × (j2.last ≡ j.last + 2) × (j2.first ≤ j2.last) × (j2.size ≤ full_segment)) where
+  rolled : (next : Bool) → (next ≡ true → j2.live ≢ j.live) → (next ≡ false → j2.live ≡ j.live) → Rolling told j0.holders (place_of j0) j0.live next (place_of j2) j2.live a c
+  rolled next apart one = rolling_on (subst (λ (x : Bool). Rolling told j0.holders (place_of j0) j0.live x (place_of j) j.live a b) is before.rolling)
+      (subst (λ (h : Members). Brings told (place_of j) (place_of j2) j2.last h j.live j2.live b c) before.holders round) went place.1 next apart one
+
+  pub rounds_on : (next : Bool) → (next ≡ true → j2.live ≢ j.live) → (next ≡ false → j2.live ≡ j.live) → (j2.going ≡ true → j2.first ≡ j2.last) → j2.buffer.items ≡ [] → most_buffer ≤ vec_capacity j2.buffer → (j2.holders ≡ j.holders) × (j2.header ≡ j.header)
+      → ((i : ℕ) → has j2.live i ≡ true → i < c.count) → InRounds told j0 j2 next a c
+  rounds_on next apart one begins empty room kept below = record {
+    rolling = rolled next apart one;
+    empty = empty;
+    room = room;
+    holders = kept.0 ∙ before.holders;
+    header = kept.1 ∙ before.header;
+    going = place.0 ∙ before.going;
+    order = λ going. place.2;
+    small = omega (arith, place.3);
+    below = below;
+    placed = λ done. (place.2, place.3, begins);
+  }
+
+-- the next round has fewer directories
+pub falls : {told : Type 0} {live live2 : Members} {b c : State} {again : Bool} → again ≡ true → Went told live live2 b c → (next : Bool) → (next ≡ true → live2 ≢ live) → suc (cond next (count_of live2 + 1) 0) ≤ cond again (count_of live + 1) 0
+falls {live = live} {live2 = live2} is went true apart =
+    let less = fewer live live2 (still_live went.counted) (apart refl) in
+    subst (λ (x : Bool). suc (count_of live2 + 1) ≤ cond x (count_of live + 1) 0) (sym is) (omega (arith, less))
+falls {live = live} is went false apart = subst (λ (x : Bool). 1 ≤ cond x (count_of live + 1) 0) (sym is) (omega arith)
+
+pub rounds_ahead : {told : Type 0} {holders live0 live : Members} {p0 p : Place} {again : Bool} {a b : State} → again ≡ false → Rolling told holders p0 live0 again p live a b → BringsAhead told p0 p holders live0 live a b
+rounds_ahead {told} {holders} {live0} {live} {p0} {p} {again} {a} {b} is rolling version list from m start =
+    let low = (subst (λ (x : Bool). Rolling told holders p0 live0 x p live a b) is rolling).low in (low.0, low.1, low.2 version list from m start)
+
+-- ---- what follows a step
+
+module _ {told : Type 0} {p1 p2 : Place} {holders live1 live2 : Members} {b c : State} where
+  -- after a step that would have no round but for a drop
+  pub settled_ids : {live0 : Members} {a : State} (again : Bool) → EachCounted live0 live0 live1 a b → (again ≡ true → live1 ≢ live0) → HasSettled again told p1 p2 holders live1 live2 b c → p2.last + 2 * count_of live2 ≤ p1.last + 2 * count_of live0
+  settled_ids {live0} true counted apart settled = let less = fewer live0 live1 (still_live counted) (apart refl) in omega (arith, less, (settled.rolled refl).ids)
+  settled_ids {live0} false counted apart settled = omega (arith, ap (λ (p : Place). p.last) (settled.stayed refl).0, ap count_of (settled.stayed refl).1, not_more live0 live1 (still_live counted))
+
+  -- after one that may have one for another reason
+  pub settled_ids_more : {live0 : Members} {a : State} (again : Bool) → EachCounted live0 live0 live1 a b → HasSettled again told p1 p2 holders live1 live2 b c → p2.last + 2 * count_of live2 ≤ p1.last + 2 + 2 * count_of live0
+  settled_ids_more {live0} true counted settled = omega (arith, (settled.rolled refl).ids, not_more live0 live1 (still_live counted))
+  settled_ids_more {live0} false counted settled = omega (arith, ap (λ (p : Place). p.last) (settled.stayed refl).0, ap count_of (settled.stayed refl).1, not_more live0 live1 (still_live counted))
+
+-- two that are true together are the same
+as_true : (x y : Bool) → (x ≡ true → y ≡ true) → (y ≡ true → x ≡ true) → x ≡ y
+as_true true true up down = refl
+as_true true false up down = sym (up refl)
+as_true false true up down = down refl
+as_true false false up down = refl
+
+-- none was dropped in the end, so none was by the step
+none_dropped : {live0 live1 live2 : Members} {a b c : State} → EachCounted live0 live0 live1 a b → EachCounted live1 live1 live2 b c → live2 ≡ live0 → live1 ≡ live0
+none_dropped {live0} {live1} {live2} counted later same = same_members live1 live0 (λ j. as_true (has live1 j) (has live0 j) (still_live counted j) (λ is. still_live later j (ap (λ (s : Members). has s j) same ∙ is)))
+
+-- nothing was done after a step that dropped none and left no full segment
+pub settled_calls : {told : Type 0} {p1 p2 : Place} {holders live0 live1 live2 : Members} {a b c : State} (again : Bool) (size : ℕ) → (again ≡ true → (live1 ≢ live0) ⊎ (full_segment < size)) → size ≤ full_segment → EachCounted live0 live0 live1 a b → EachCounted live1 live1 live2 b c → live2 ≡ live0
+    → HasSettled again told p1 p2 holders live1 live2 b c → moment c ≡ moment b
+settled_calls true size why small counted later same settled = absurd (⊎_elim (λ ne. ne (none_dropped counted later same)) (λ full. omega (arith, full, small)) (why refl))
+settled_calls false size why small counted later same settled = ap moment (settled.stayed refl).2
+
+-- ---- one directory is dropped
+
+pub without_sub : {rest : Members} (set : Members) (i : ℕ) → ((j : ℕ) → has rest j ≡ (not (j == i) && has set j)) → (j : ℕ) → has rest j ≡ true → has set j ≡ true
+without_sub {rest} set i is j there = (and_parts (not (j == i)) (has set j) (sym (is j) ∙ there)).1
+
+pub without_fewer : {rest : Members} (set : Members) (i : ℕ) → ((j : ℕ) → has rest j ≡ (not (j == i) && has set j)) → has set i ≡ true → count_of rest < count_of set
+without_fewer {rest} set i is there = fewer set rest (without_sub set i is) (λ same.
+    let gone : has rest i ≡ false = is i ∙ elim (eqb_tells i i) [ inl it ↦ ap (λ (x : Bool). not x && has set i) it.0 | inr other ↦ absurd (other.1 refl) ] in
+    let apart = sym gone ∙ ap (λ (s : Members). has s i) same ∙ there in
+    cc)

@@ -1,0 +1,9 @@
+use Rattle.std.proofs.Common.{arith}
+use Rattle.nn_journal.proofs.RoundLemmas.{without_sub, without_fewer}
+use Rattle.nn_journal.proofs.journal.JournalSet.drop_dir.Goals as goal
+
+pub rounds-requires-clause-below : goal.rounds-requires-clause-below
+rounds-requires-clause-below g c = λ j there. c.requires.below j (without_sub c.args.self.now.live c.args.i.0 c.without-self.ensures j there)
+
+pub returns-clause-last : goal.returns-clause-last
+returns-clause-last g c = omega (arith, c.rounds.ensures.ids, without_fewer c.args.self.now.live c.args.i.0 c.without-self.ensures c.requires.live)

@@ -1,0 +1,4 @@
+pub mod Among
+pub mod Ahead
+pub mod Carried
+pub mod Places
