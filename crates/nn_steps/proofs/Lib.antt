@@ -1,5 +1,6 @@
-pub mod MadeLemmas
-pub mod NormalLemmas
-pub mod PublishedLemmas
 pub mod SeatLemmas
+pub mod NormalLemmas
+pub mod MadeLemmas
 pub mod RecoveredLemmas
+pub mod ClearedLemmas
+pub mod PublishedLemmas

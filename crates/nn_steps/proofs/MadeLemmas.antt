@@ -1,11 +1,11 @@
 -- A directory that isn't formatted or is being made.
-use Rattle.std.proofs.Common.{true, false, ◌≡◌, inl, inr, ⊎_elim, ℕ, ◌+◌, ◌<◌, ◌≤◌, ◌^◌, Some, true≢false, sym, ◌∙◌, arith}
+use Rattle.std.proofs.Common.{false, ◌≡◌, inl, inr, ⊎_elim, ℕ, ◌+◌, ◌<◌, ◌≤◌, ◌^◌, Some, true≢false, sym, ◌∙◌, arith}
 use Rattle.std.specs.Fmt.{decimal}
 use Rattle.std.proofs.lemmas.Option.{same_Some}
 use Rattle.nn_base.specs.Limits.{program_layout}
 use Rattle.nn_base.specs.declared.sub.Sub.TheVariants.{Current, Previous}
 use Rattle.nn_base.specs.declared.file_name.FileName.TheVariants.{Seen}
-use Rattle.nn_host.specs.Disk.{Disk, Reads, Leaves}
+use Rattle.nn_host.specs.Disk.{Reads}
 use Rattle.nn_marks.specs.Seen.{seen_text_of}
 use Rattle.nn_marks.specs.VersionText.{version_text_of}
 use Rattle.nn_marks.specs.declared.version.Version.{Version}
@@ -15,12 +15,11 @@ use Rattle.nn_state.specs.declared.state.StorageState.TheVariants.{NotFormatted}
 use Rattle.nn_state.specs.Typed.{FitsFresh}
 use Rattle.nn_tree.specs.Namespace.{Namespace}
 use Rattle.nn_chain.specs.Folder.{Folder, HasSeen}
-use Rattle.nn_remake.specs.Made.{IsMade, ReadsMade}
+use Rattle.nn_remake.specs.Made.{ReadsMade}
 use Rattle.nn_remake.proofs.LeftLemmas.{fresh_left, made_left, made_intact, made_no_later, made_no_segment}
 use Rattle.nn_pick.specs.Laws.{HoldsImage}
 use Rattle.nn_pick.proofs.HoldsLemmas.{fresh_serves}
 use Rattle.nn_kept.specs.Kept.{Shared, IsKept}
-use Rattle.nn_kept.specs.Ends.{HasRoom}
 use Rattle.nn_kept.proofs.KeptEndsLemmas.{held_image_ends, between_is_kept}
 use Rattle.nn_steps.specs.Steps.{FreshIsKept, MakingKeeps, MadeEnds}
 

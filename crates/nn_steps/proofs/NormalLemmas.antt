@@ -1,5 +1,5 @@
 -- A directory that is NORMAL: `current` serves, and `previous` where it is there.
-use Rattle.std.proofs.Common.{true, false, ◌≡◌, Bool, Some, None, Result, refl, ◌∙◌, ap, sym}
+use Rattle.std.proofs.Common.{true, false, ◌≡◌, Bool, Some, Result, refl, ◌∙◌, ap, sym}
 use Rattle.std.proofs.lemmas.Option.{none-some, same_Some}
 use Rattle.nn_base.specs.declared.sub.Sub.{Sub}
 use Rattle.nn_base.specs.declared.sub.Sub.TheVariants.{Current, Previous}
@@ -11,7 +11,7 @@ use Rattle.nn_state.specs.Table.{seven_of}
 use Rattle.nn_state.specs.Seat.{seat_by, if_there, serving, saved}
 use Rattle.nn_state.specs.Typed.{IsIn}
 use Rattle.nn_chain.specs.Folder.{Folder, folder_at}
-use Rattle.nn_pick.specs.Dirs.{ServesCurrent, ServesPrevious}
+use Rattle.nn_pick.specs.Dirs.{ServesCurrent}
 use Rattle.nn_pick.proofs.VersionLemmas.{one_current}
 
 there_is : (b : Bool) (s : Sub) → if_there b Previous ≡ Some s → Previous ≡ s

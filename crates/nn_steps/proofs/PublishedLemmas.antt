@@ -1,10 +1,10 @@
 -- A directory into which the image is published at which its chain ends.
-use Rattle.std.proofs.Common.{List, ◌≡◌, ⊎_elim, ℕ, ◌+◌, ◌≤◌, Bool, Option, Ok, Some, sym, ◌∙◌, ap, subst, arith}
+use Rattle.std.proofs.Common.{List, ◌≡◌, ⊎_elim, ℕ, ◌+◌, ◌≤◌, Bool, Option, sym, ◌∙◌, ap, subst, arith}
 use Rattle.std.specs.Prelude.{is_some}
 use Rattle.nn_base.specs.declared.sub.Sub.{Sub}
 use Rattle.nn_base.specs.declared.sub.Sub.TheVariants.{Current, Previous}
 use Rattle.nn_base.specs.declared.file_name.FileName.TheVariants as name
-use Rattle.nn_host.specs.Disk.{Disk, Reads, Leaves}
+use Rattle.nn_host.specs.Disk.{Reads}
 use Rattle.nn_marks.specs.declared.version.Version.{Version}
 use Rattle.nn_state.specs.declared.state.Seven.{Seven}
 use Rattle.nn_state.specs.declared.state.StorageState.TheVariants.{Normal}
@@ -16,7 +16,7 @@ use Rattle.nn_chain.specs.Folder.{Folder, HasVersion, HasSeen, folder_at}
 use Rattle.nn_chain.specs.Chain.{Reached, IsChain, IsEnd, EndsBare}
 use Rattle.nn_chain.proofs.SameLemmas.{SameSegments, segments_back, holds_same}
 use Rattle.nn_remake.specs.Publishing.{BesideImage}
-use Rattle.nn_remake.specs.Rank.{KeepsRank, IsRanked}
+use Rattle.nn_remake.specs.Rank.{KeepsRank}
 use Rattle.nn_remake.proofs.ChainLemmas.{same_segments}
 use Rattle.nn_remake.proofs.LeftLemmas.{seven_left}
 use Rattle.nn_remake.proofs.TableLemmas.{seven_by}

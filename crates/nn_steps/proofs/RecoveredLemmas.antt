@@ -1,22 +1,20 @@
 -- A directory whose seat stays goes on to be kept, and to end where it ended.
-use Rattle.std.proofs.Common.{List, refl, true, ◌≡◌, ◌≢◌, inl, inr, ℕ, Option, Some, None, sym, ◌∙◌, ap, subst}
-use Rattle.std.specs.Prelude.{is_some, Bool, Contains}
-use Rattle.std.proofs.lemmas.Option.{none-some}
-use Rattle.nn_base.specs.declared.sub.Sub.{Sub}
+use Rattle.std.proofs.Common.{List, refl, ◌≡◌, inl, inr, ℕ, Option, None, sym, ◌∙◌, ap, subst}
+use Rattle.std.specs.Prelude.{is_some, Contains}
 use Rattle.nn_base.specs.declared.file_name.FileName.TheVariants as name
 use Rattle.nn_host.specs.Disk.{Disk, Reads}
 use Rattle.nn_host.proofs.CleanLemmas.{reading}
 use Rattle.nn_marks.specs.declared.version.Version.{Version}
 use Rattle.nn_state.specs.declared.state.Seven.{Seven}
 use Rattle.nn_state.specs.Seat.{serving, seat_of}
-use Rattle.nn_state.specs.Recovery.{SameSeat, HasServingVersion, KeepsSeat}
+use Rattle.nn_state.specs.Recovery.{SameSeat, HasServingVersion}
 use Rattle.nn_chain.specs.Folder.{Folder, HasVersion, folder_at}
 use Rattle.nn_remake.proofs.LeftLemmas.{seven_left, some_left}
 use Rattle.nn_pick.specs.Dirs.{ServesCurrent, ServesUnder}
 use Rattle.nn_pick.proofs.HoldsLemmas.{serves_formatted}
 use Rattle.nn_pick.proofs.VersionLemmas.{one_current}
 use Rattle.nn_kept.specs.Kept.{Rank, Shared, IsKept, IsOfRun, IsHolderOfRun}
-use Rattle.nn_kept.specs.Laws.{IsOutranked, EachLeft, IsKeptDisk}
+use Rattle.nn_kept.specs.Laws.{IsOutranked, EachLeft}
 use Rattle.nn_kept.specs.Onward.{HasSameSeat}
 use Rattle.nn_kept.proofs.KeptOnwardLemmas.{book_same, same_under, same_stands, same_seat_is_kept, same_seat_ends}
 use Rattle.nn_kept.proofs.KeptOpenLemmas.{some_or_none, there}
@@ -24,6 +22,17 @@ use Rattle.nn_steps.specs.Steps.{RecoveringKeeps, RecoveringLeavesBehind, Recove
 use Rattle.nn_steps.proofs.SeatLemmas.{left_seat, reads_whole, reads_fair}
 
 -- ---- one directory
+
+-- what serves is what served
+pub served : (old new : Reads) → (serving old ≡ None → serving new ≡ None) → ((folder : Folder) → ServesCurrent old folder → ServesCurrent new folder) → (folder : Folder) → ServesCurrent new folder → ServesCurrent old folder
+served old new unserved current folder is = elim (some_or_none (serving old)) [
+  | inl some ↦ (
+      let sub = there (serving old) some in
+      let was : ServesCurrent old (folder_at old sub.0) = record { sub = sub.0; serves = sub.1; is = refl } in
+      subst (ServesCurrent old) (sym (one_current new folder (folder_at old sub.0) is (current (folder_at old sub.0) was))) was
+      )
+  | inr none ↦ absurd (serves_formatted new folder is (unserved none))
+]
 
 module _ (shared : Shared) (old new : Reads) (seat : HasSameSeat old new) where
   same_of_run : (rank : Rank) → IsOfRun shared old rank → IsOfRun shared new rank
@@ -38,19 +47,8 @@ module _ (shared : Shared) (old new : Reads) (seat : HasSameSeat old new) where
   same_holder : IsHolderOfRun shared old → IsHolderOfRun shared new
   same_holder is = record { rank = is.rank; run = same_of_run is.rank is.run; led = is.led; inside = subst (Contains shared.window) (book_same shared old new is.rank seat.there) is.inside }
 
-  -- what serves is what served
-  served : (folder : Folder) → ServesCurrent new folder → ServesCurrent old folder
-  served folder is = elim (some_or_none (serving old)) [
-    | inl some ↦ (
-        let sub = there (serving old) some in
-        let was : ServesCurrent old (folder_at old sub.0) = record { sub = sub.0; serves = sub.1; is = refl } in
-        subst (ServesCurrent old) (sym (one_current new folder (folder_at old sub.0) is (seat.current (folder_at old sub.0) was))) was
-        )
-    | inr none ↦ absurd (serves_formatted new folder is (seat.unserved none))
-  ]
-
   same_outranked : IsOutranked shared old → IsOutranked shared new
-  same_outranked low v a is = low v a (record { serves = served a is.serves; says = is.says })
+  same_outranked low v a is = low v a (record { serves = served old new seat.unserved seat.current a is.serves; says = is.says })
 
 -- ---- its VERSION
 

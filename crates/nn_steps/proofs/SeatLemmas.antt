@@ -18,13 +18,12 @@ use Rattle.nn_state.specs.Table.{seven_of, table_of, rows, first_row}
 use Rattle.nn_state.specs.Seat.{seat_of, seat_by, if_there, serving, saved}
 use Rattle.nn_state.specs.Recovery.{SameFolder, SameSeat}
 use Rattle.nn_state.specs.Typed.{IsIn}
-use Rattle.nn_chain.specs.Folder.{Folder, folder_at}
+use Rattle.nn_chain.specs.Folder.{Folder}
 use Rattle.nn_chain.specs.Records.{first_in}
 use Rattle.nn_chain.specs.Fair.{IsFair, IsFairFile}
 use Rattle.nn_chain.proofs.FairLemmas.{whole_is_fair}
 use Rattle.nn_remake.proofs.LeftLemmas.{seven_left}
 use Rattle.nn_pick.specs.Dirs.{ServesCurrent, ServesPrevious}
-use Rattle.nn_pick.proofs.VersionLemmas.{one_current}
 use Rattle.nn_kept.specs.Kept.{HasState}
 use Rattle.nn_kept.specs.Onward.{HasSameSeat}
 use Rattle.nn_kept.proofs.KeptOpenLemmas.{there}
@@ -134,7 +133,7 @@ module _ (old d : Disk) (c : Reads) where
   side_before None (Some y) same b e = absurd same
   side_before (Some x) (Some y) same b e = (x, refl)
 
-  neither : (oc nc : Option Sub) → SameFolder oc nc old d → oc ≡ None → nc ≡ None
+  pub neither : (oc nc : Option Sub) → SameFolder oc nc old d → oc ≡ None → nc ≡ None
   neither None None same e = refl
   neither None (Some y) same e = absurd same
   neither (Some x) nc same e = absurd (none-some x (sym e))
@@ -147,7 +146,7 @@ module _ (old d : Disk) (c : Reads) where
 
 -- ---- what reads whole
 
-leaves_whole : (f : Option File) → LeavesFile f (whole f)
+pub leaves_whole : (f : Option File) → LeavesFile f (whole f)
 leaves_whole None = tt
 leaves_whole (Some f) = record { tail = f.pending; split = refl; short = omega arith }
 
@@ -159,7 +158,7 @@ reads_fair d = whole_is_fair d (reading d) (λ sub name file bytes there reads. 
 
 -- ---- what is left has the seat of something that could be left before
 
-abbrev FairAt : FileName → Option File → Option (List ℕ) → Type 0
+abbrev pub FairAt : FileName → Option File → Option (List ℕ) → Type 0
 FairAt n f g = (first : ℕ) (file : File) (bytes : List ℕ) → IsInRange n → first_in n ≡ Some first → f ≡ Some file → g ≡ Some bytes → IsFairFile first file bytes
 
 -- the folder that serves as current is the same; the one that serves as previous is, or is gone

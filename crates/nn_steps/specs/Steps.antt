@@ -1,17 +1,19 @@
 -- What each durable step on a directory keeps: from what it says of the one disk at each moment to what a run keeps of that disk.
-use Rattle.std.specs.Prelude.{◌≡◌, ℕ, ◌<◌, ◌^◌, Bool, false, Option}
+use Rattle.std.specs.Prelude.{◌≡◌, ◌⊎◌, None, ℕ, ◌<◌, ◌≤◌, ◌^◌, Bool, false, Option, is_some}
 use Rattle.nn_base.specs.Limits.{program_layout}
 use Rattle.nn_host.specs.Disk.{Disk}
 use Rattle.nn_marks.specs.declared.version.Version.{Version}
 use Rattle.nn_state.specs.declared.state.StorageState.TheVariants.{Normal}
+use Rattle.nn_state.specs.Seat.{saved}
 use Rattle.nn_state.specs.Typed.{IsIn, FitsFresh}
 use Rattle.nn_state.specs.Recovery.{KeepsSeat}
 use Rattle.nn_tree.specs.Namespace.{Namespace}
+use Rattle.nn_remake.specs.Clearing.{IsAtRest, IsGivingUp, IsClearing}
 use Rattle.nn_remake.specs.Made.{IsMade, FreshOrMade}
 use Rattle.nn_remake.specs.Rank.{IsRanked}
 use Rattle.nn_kept.specs.Kept.{Shared, IsKept}
 use Rattle.nn_kept.specs.Laws.{IsOutranked, EachLeft, IsKeptDisk}
-use Rattle.nn_kept.specs.Ends.{EndsBetween, HasRoom}
+use Rattle.nn_kept.specs.Ends.{EndsAt, EndsBetween, HasRoom}
 
 -- ---- a directory that isn't formatted, or is being made
 
@@ -40,6 +42,29 @@ RecoveringLeavesBehind = (shared : Shared) (old d : Disk) → EachLeft old (IsKe
 -- One that ends somewhere ends there.
 abbrev pub RecoveringEnds : Type 0
 RecoveringEnds = (version : Version) (has : Bool) (what : Option Namespace) (list : ℕ → Namespace) (lo hi : ℕ) (old d : Disk) → EndsBetween version has what list lo hi old → KeepsSeat old d → EndsBetween version has what list lo hi d
+
+-- ---- a directory that is cleared
+
+-- At each moment of its clearing a kept directory is kept, if the floor has left it behind or it has nothing saved.
+abbrev pub ClearingKeeps : Type 0
+ClearingKeeps = (shared : Shared) (old d : Disk) → EachLeft old (IsKept shared) → EachLeft old (IsOutranked shared) ⊎ (saved old ≡ None) → IsClearing old d → IsKeptDisk shared false false d
+
+-- ---- a directory that is topped up
+
+-- it is kept, and the floor has left it behind
+abbrev pub StaysBehind : Shared → Disk → Type 0
+StaysBehind shared d = EachLeft d (λ c. IsKept shared c × IsOutranked shared c)
+
+-- It stays so while its previous is given up.
+abbrev pub GivingUpKeeps : Type 0
+GivingUpKeeps = (shared : Shared) (old d : Disk) → IsAtRest old → StaysBehind shared old → IsGivingUp old d → StaysBehind shared d
+
+-- ---- a directory whose previous is given up
+
+-- It ends where it ended, with its previous or without.
+abbrev pub GivingUpEnds : Type 0
+GivingUpEnds = (version : Version) (has : Bool) (what : Option Namespace) (list : ℕ → Namespace) (lo hi : ℕ) (old d : Disk) → IsAtRest old → EndsBetween version has what list lo hi old → IsGivingUp old d
+    → EachLeft d (λ c. (n : ℕ) × (lo ≤ n) × (n ≤ hi) × EndsAt c version (is_some (saved c)) what (record { last = n; ns = list n }))
 
 -- ---- an image that is published
 

@@ -1,5 +1,5 @@
 // What follows from the contracts of the steps on one directory, for the calls that compose them: no call does anything here.
-ghost use Rattle.nn_steps.specs.Steps.{FreshIsKept, MakingKeeps, MadeEnds, RecoveringKeeps, RecoveringLeavesBehind, RecoveringEnds, PublishingEnds};
+ghost use Rattle.nn_steps.specs.Steps.{FreshIsKept, MakingKeeps, MadeEnds, RecoveringKeeps, RecoveringLeavesBehind, RecoveringEnds, ClearingKeeps, GivingUpKeeps, GivingUpEnds, PublishingEnds};
 
 /// A directory that isn't formatted is kept.
 pub fn a_directory_not_formatted_is_kept()
@@ -29,6 +29,21 @@ pub fn a_directory_in_recovery_stays_behind()
 /// A directory ends where it ended at each moment of a recovery.
 pub fn a_directory_in_recovery_ends()
     ensures { RecoveringEnds }
+{}
+
+/// A kept directory is kept at each moment of its clearing, if the floor has left it behind or it has nothing saved.
+pub fn a_directory_in_clearing_is_kept()
+    ensures { ClearingKeeps }
+{}
+
+/// A directory that the floor has left behind stays kept and behind at each moment at which its previous is given up.
+pub fn a_directory_given_up_stays_behind()
+    ensures { GivingUpKeeps }
+{}
+
+/// A directory ends where it ended at each moment at which its previous is given up, with it or without.
+pub fn a_directory_given_up_ends()
+    ensures { GivingUpEnds }
 {}
 
 /// A directory ends where it ended at each moment of the publishing of the image at which its chain ends.
