@@ -111,7 +111,7 @@ module _ (old d : Disk) (rest : IsAtRest old) where
   abbrev version : Bool
   version = is_some (old.file Current Version)
 
-  given_seven : IsGivingUp old d → d.has Previous ≡ false → seven_of d ≡ record (at_rest version false) { finalized_tmp = d.has FinalizedTmp }
+  pub given_seven : IsGivingUp old d → d.has Previous ≡ false → seven_of d ≡ record (at_rest version false) { finalized_tmp = d.has FinalizedTmp }
   given_seven is gone =
       let e = rest_seven old rest in
       λ k. record {

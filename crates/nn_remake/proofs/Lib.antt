@@ -8,3 +8,7 @@ pub mod ChainLemmas
 pub mod RankLemmas
 pub mod ClearingLemmas
 pub mod ClearingCallLemmas
+pub mod RemovingLemmas
+pub mod CuttingLemmas
+pub mod CuttingCallLemmas
+pub mod ToppingLemmas

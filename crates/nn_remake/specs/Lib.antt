@@ -4,3 +4,6 @@ pub mod Rank
 pub mod Published
 pub mod Made
 pub mod Clearing
+pub mod Removing
+pub mod Cutting
+pub mod Topping

@@ -4,12 +4,16 @@
 #![tactic(auto)]
 
 mod clearing;
+mod cutting;
 mod fault;
 mod making;
 mod publishing;
+mod removing;
 mod staging;
+mod topping;
 
 pub use clearing::clear;
 pub use fault::MakeFault;
 pub use making::make;
 pub use publishing::publish;
+pub use topping::top_up;
