@@ -178,7 +178,7 @@ module _ {told : Type 0} {step : Step} {first : ℕ} {bytes : List ℕ} {among l
           calls = walk_calls;
         }
 
-    pub walk_ends : k ≡ 8 → SteppedAmong told step first bytes among live0 live a b
+    pub walk_ends : 8 ≤ k → SteppedAmong told step first bytes among live0 live a b
     walk_ends is = record {
       counted = so_far.counted;
       any_moment = so_far.run;

@@ -29,6 +29,7 @@ pub fn step_all<H: Host>(
 }
 
 /// Does a step with these bytes in each of these directories, in order. One that fails is no longer live.
+#[tactic(auto, using(crate::proofs::AmongLemmas::walk_ends))]
 pub fn step_among<H: Host>(
     host: &mut H,
     live: &mut DirSet,

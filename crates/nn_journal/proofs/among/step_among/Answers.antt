@@ -1,5 +1,5 @@
 use Rattle.std.proofs.Common.{◌∙◌, sym, ap, arith}
-use Rattle.nn_journal.proofs.AmongLemmas.{walk_begins, walk_past, walk_on, walk_drops, walk_ends, walked_as}
+use Rattle.nn_journal.proofs.AmongLemmas.{walk_begins, walk_past, walk_on, walk_drops, walked_as}
 use Rattle.nn_journal.proofs.among.step_among.Goals as goal
 use Rattle.nn_journal.proofs.among.step_among.Goals.{then-has+in-Ok, then-has+in-Err, else-has}
 
@@ -17,6 +17,3 @@ loop-i-preserved g c = elim c.if-has.branch [
       (walk_drops c.loop-i.invariant (sym c.has.ensures ∙ w.if-has.true) w.in-Err.ensures.beside w.in-Err.ensures.any_moment w.in-Err.ensures.calls w.without.ensures w.in-Err.ensures.cause.err)
   | else-has w ↦ walked_as w.live-is (ap g.H.Host.state w.host-is) (walk_past c.loop-i.invariant (sym c.has.ensures ∙ w.if-has.false))
 ]
-
-pub returns-clause-stepped : goal.returns-clause-stepped
-returns-clause-stepped g c = walk_ends c.loop-i.invariant (omega (arith, c.loop-i-test.false, c.loop-i.auto.i-end))
