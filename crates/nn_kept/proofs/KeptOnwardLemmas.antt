@@ -174,7 +174,7 @@ seen_there a b id same (inl says) = inl (says.0, sym same ∙ says.1, says.2)
 seen_there a b id same (inr none) = inr (none.0, λ said says. none.1 said (says.0, same ∙ says.1, says.2))
 
 -- what a directory below the floor reaches, the floor reaches
-reached_by_floor : (shared : Shared) (v : Version) (a : Folder) (id : ℕ) → shared.floor.ctime ≤ v.ctime → IsBelowFloor shared v a → IsReached shared v a id → (v.ctime ≡ shared.floor.ctime) × (id ≤ shared.floor.last)
+pub reached_by_floor : (shared : Shared) (v : Version) (a : Folder) (id : ℕ) → shared.floor.ctime ≤ v.ctime → IsBelowFloor shared v a → IsReached shared v a id → (v.ctime ≡ shared.floor.ctime) × (id ≤ shared.floor.last)
 reached_by_floor shared v a id late below (inr level) = level
 reached_by_floor shared v a id late (inl less) (inl own) = absurd (omega (arith, late, less))
 reached_by_floor shared v a id late (inr is) (inl own) = (is.0, (let less = is.1 own.0 own.1 in omega (arith, less, own.2)))

@@ -1,6 +1,11 @@
 pub mod SeatLemmas
+pub mod BesideLemmas
+pub mod LoweringLemmas
 pub mod NormalLemmas
 pub mod MadeLemmas
 pub mod RecoveredLemmas
 pub mod ClearedLemmas
+pub mod CutLemmas
 pub mod PublishedLemmas
+pub mod ToppedLemmas
+pub mod BroughtLemmas

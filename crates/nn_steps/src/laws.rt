@@ -1,5 +1,5 @@
 // What follows from the contracts of the steps on one directory, for the calls that compose them: no call does anything here.
-ghost use Rattle.nn_steps.specs.Steps.{FreshIsKept, MakingKeeps, MadeEnds, RecoveringKeeps, RecoveringLeavesBehind, RecoveringEnds, ClearingKeeps, GivingUpKeeps, GivingUpEnds, PublishingEnds};
+ghost use Rattle.nn_steps.specs.Steps.{FreshIsKept, MakingKeeps, MadeEnds, RecoveringKeeps, RecoveringLeavesBehind, RecoveringEnds, ClearingKeeps, GivingUpKeeps, ToppingUpKeeps, ToppedUpEnds, GivingUpEnds, PublishingEnds};
 
 /// A directory that isn't formatted is kept.
 pub fn a_directory_not_formatted_is_kept()
@@ -44,6 +44,16 @@ pub fn a_directory_given_up_stays_behind()
 /// A directory ends where it ended at each moment at which its previous is given up, with it or without.
 pub fn a_directory_given_up_ends()
     ensures { GivingUpEnds }
+{}
+
+/// A directory that the floor has left behind stays kept and behind at each moment of its topping up, or ends at the floor.
+pub fn a_directory_in_topping_up_stays_behind_or_ends()
+    ensures { ToppingUpKeeps }
+{}
+
+/// A directory that was topped up ends at the floor in whatever a fair stop leaves, where it does so in one such thing.
+pub fn a_topped_up_directory_ends()
+    ensures { ToppedUpEnds }
 {}
 
 /// A directory ends where it ended at each moment of the publishing of the image at which its chain ends.
