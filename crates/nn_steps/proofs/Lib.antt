@@ -9,3 +9,4 @@ pub mod CutLemmas
 pub mod PublishedLemmas
 pub mod ToppedLemmas
 pub mod BroughtLemmas
+pub mod LoggedLemmas

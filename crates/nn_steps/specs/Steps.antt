@@ -11,6 +11,7 @@ use Rattle.nn_state.specs.Recovery.{KeepsSeat}
 use Rattle.nn_tree.specs.Namespace.{Namespace}
 use Rattle.nn_chain.specs.Folder.{HasVersion, folder_at}
 use Rattle.nn_chain.specs.Fair.{IsFair}
+use Rattle.nn_segment_file.specs.Steps.{Logged}
 use Rattle.nn_remake.specs.Clearing.{IsAtRest, IsGivingUp, IsClearing}
 use Rattle.nn_remake.specs.Made.{IsMade, FreshOrMade}
 use Rattle.nn_remake.specs.Topping.{IsToppingUp, IsBroughtTo}
@@ -98,3 +99,10 @@ GivingUpEnds = (version : Version) (has : Bool) (what : Option Namespace) (list 
 abbrev pub PublishingEnds : Type 0
 PublishingEnds = (version : Version) (has : Bool) (what : Option Namespace) (list : ℕ → Namespace) (id : ℕ) (old d : Disk) → IsIn Normal old → EndsBetween version has what list id id old
     → IsRanked version (record { last = id; ns = list id }) old d → EndsBetween version has what list id id d
+
+-- ---- a directory whose segments are written to
+
+-- At each moment at which records go behind a segment, or one is begun or ended, it ends at one of the ids that are in flight, where it ended no later before.
+abbrev pub LoggingEnds : Type 0
+LoggingEnds = (version : Version) (has : Bool) (what : Option Namespace) (list : ℕ → Namespace) (from to lo hi : ℕ) (old d : Disk) → IsIn Normal old → EndsBetween version has what list from to old → to ≤ lo
+    → Logged version list lo hi old d → EndsBetween version has what list lo hi d
