@@ -1,29 +1,66 @@
 -- How the process ends, from the status of the run.
-use Rattle.std.proofs.Common.{◌≡◌, ◌⊎◌, inl, inr, ⊎_elim, ℕ, List, refl}
+use Rattle.std.proofs.Common.{◌≡◌, inl, inr, ℕ, List, [], length, refl, ap, subst}
 use Rattle.nn_base.specs.Paths.{Bytes}
 use Rattle.nn_host.specs.Moments.{State}
+use Rattle.nn_files.specs.Untold.{unfailed_state}
 use Rattle.nn_server.specs.declared.status.Status.{Status}
-use Rattle.nn_server.specs.declared.status.Status.TheVariants.{Usage, Memory, OutFault}
+use Rattle.nn_server.specs.declared.status.Status.TheVariants.{Memory}
 use Rattle.nn_server.specs.Codes.{code_of}
-use Rattle.nn_top.specs.Wanted.{Wanted}
+use Rattle.nn_top.specs.Wanted.{Wanted, States, Format, Dry, dirs_in}
 use Rattle.nn_top.specs.Commands.{Asks, HaveNoReading}
-use Rattle.nn_top.specs.Did.{Unread}
-use Rattle.nn_top.proofs.UsageLemmas.{unread_ends}
-use Rattle.nn_cli.specs.Exit.{ExitsBy}
+use Rattle.nn_top.specs.Did.{Unread, Did}
+use Rattle.nn_top.proofs.LineLemmas.{Asks-unique}
+use Rattle.nn_cli.specs.Exit.{CanEndBy, ExitsBy}
 
--- memory ran out
+-- memory ran out before the run
 pub exits_starved : (words : List Bytes) (exit : ℕ) → exit ≡ code_of Memory → ExitsBy words exit
-exits_starved words exit code = record { status = Memory; code = code; usage_only = λ is. cc; unread = λ none. inr (inl refl) }
+exits_starved words exit code = record { status = Memory; code = code; read = λ wanted asks. inl refl; unread = λ none. inl refl }
+
+-- of a source that tells nothing, its count alone is spoken of
+counts_alone : {Source : Type 0} (left : Source → Bytes) (faults : Source → ℕ) (before after : Source) (old new : State) (wanted : Wanted) (status : Status) → Did ⊥ ⊥ left faults wanted before after old new status
+    → Did ⊥ ⊥ (λ n. []) (λ n. n) wanted (faults before) (faults after) old new status
+counts_alone left faults before after old new (States dirs) status did = (ap faults did.0, did.1)
+counts_alone left faults before after old new (Format cluster namespace dirs) status did = (ap faults did.0, did.1)
+counts_alone left faults before after old new Dry status did = record {
+  end = did.end;
+  lines = did.lines;
+  trace = did.trace;
+  ran = record {
+    taken = did.ran.taken;
+    lines = did.ran.lines;
+    fits = did.ran.fits;
+    lines_are = did.ran.lines_are;
+    of_script = λ never. absurd never;
+    said = did.ran.said;
+    dirs = did.ran.dirs;
+    counted = did.ran.counted;
+  };
+  closes = did.closes;
+}
 
 -- words with a reading were done
-pub exits_done : (words : List Bytes) (wanted : Wanted) (status : Status) (exit : ℕ) → Asks words wanted → exit ≡ code_of status → (status ≡ Usage → HaveNoReading words) → ExitsBy words exit
-exits_done words wanted status exit asks code usage_only = record { status = status; code = code; usage_only = usage_only; unread = λ none. absurd (none wanted asks) }
-
--- words without one were answered
-pub exits_unread : {told : Type 0} {a b : State} (words : List Bytes) (status : Status) (exit : ℕ) → HaveNoReading words → exit ≡ code_of status → Unread told a b status → ExitsBy words exit
-exits_unread words status exit none code unread = record {
+pub exits_done : {Source : Type 0} (left : Source → Bytes) (faults : Source → ℕ) (before after : Source) (old new : State) (words : List Bytes) (wanted : Wanted) (status : Status) (exit : ℕ) → Asks words wanted
+    → exit ≡ code_of status → faults before ≡ 0 → old ≡ unfailed_state (length (dirs_in wanted)) → Did ⊥ ⊥ left faults wanted before after old new status → ExitsBy words exit
+exits_done left faults before after old new words wanted status exit asks code unfailed opened did = record {
   status = status;
   code = code;
-  usage_only = λ is. none;
-  unread = λ here. ⊎_elim (λ usage. inl usage) (λ out. inr (inr out)) (unread_ends unread);
+  read = λ again asks_again. inr (subst (λ (w : Wanted). CanEndBy w status) (Asks-unique words wanted again asks asks_again) ends);
+  unread = λ none. absurd (none wanted asks);
+}
+  where
+    ends : CanEndBy wanted status
+    ends = (
+      faults after,
+      new,
+      subst (λ (s : State). Did ⊥ ⊥ (λ n. []) (λ n. n) wanted 0 (faults after) s new status) opened
+          (subst (λ (n : ℕ). Did ⊥ ⊥ (λ n. []) (λ n. n) wanted n (faults after) old new status) unfailed (counts_alone left faults before after old new wanted status did)),
+    )
+
+-- words without one were answered
+pub exits_unread : {old new : State} (words : List Bytes) (status : Status) (exit : ℕ) → HaveNoReading words → exit ≡ code_of status → old ≡ unfailed_state 0 → Unread ⊥ old new status → ExitsBy words exit
+exits_unread {new = new} words status exit none code opened unread = record {
+  status = status;
+  code = code;
+  read = λ wanted asks. absurd (none wanted asks);
+  unread = λ here. inr (new, subst (λ (s : State). Unread ⊥ s new status) opened unread);
 }

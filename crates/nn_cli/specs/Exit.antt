@@ -1,15 +1,22 @@
 -- How the process ends.
-use Rattle.std.specs.Prelude.{◌≡◌, ◌⊎◌, ℕ, List}
+use Rattle.std.specs.Prelude.{◌≡◌, ◌⊎◌, ℕ, List, [], length}
 use Rattle.nn_base.specs.Paths.{Bytes}
+use Rattle.nn_host.specs.Moments.{State}
+use Rattle.nn_files.specs.Untold.{unfailed_state}
 use Rattle.nn_server.specs.declared.status.Status.{Status}
-use Rattle.nn_server.specs.declared.status.Status.TheVariants.{Usage, Memory, OutFault}
+use Rattle.nn_server.specs.declared.status.Status.TheVariants.{Memory}
 use Rattle.nn_server.specs.Codes.{code_of}
-use Rattle.nn_top.specs.Commands.{HaveNoReading}
+use Rattle.nn_top.specs.Wanted.{Wanted, dirs_in}
+use Rattle.nn_top.specs.Commands.{Asks, HaveNoReading}
+use Rattle.nn_top.specs.Did.{Unread, Did}
 
--- by the code of a status: that of words without a reading for such words alone, and for these no other, unless memory ran out
--- or the output failed
+-- a run that was asked for this comes to this status over folders and a source that tell nothing and hadn't failed before
+abbrev pub CanEndBy : Wanted → Status → Type 0
+CanEndBy wanted status = (faults : ℕ) × (new : State) × Did ⊥ ⊥ (λ n. []) (λ n. n) wanted 0 faults (unfailed_state (length (dirs_in wanted))) new status
+
+-- by the code of the status that the run came to, as its words ask for; by that of want of memory, where that came before the run
 pub record ExitsBy (words : List Bytes) (exit : ℕ) : Type 0 where
   pub status : Status
   pub code : exit ≡ code_of status
-  pub usage_only : status ≡ Usage → HaveNoReading words
-  pub unread : HaveNoReading words → (status ≡ Usage) ⊎ ((status ≡ Memory) ⊎ (status ≡ OutFault))
+  pub read : (wanted : Wanted) → Asks words wanted → (status ≡ Memory) ⊎ CanEndBy wanted status
+  pub unread : HaveNoReading words → (status ≡ Memory) ⊎ ((new : State) × Unread ⊥ (unfailed_state 0) new status)

@@ -1,5 +1,6 @@
 // Runs over real folders, the real input and the real output.
 ghost use Rattle.std.specs.Prelude.{◌≡◌, ◌≤◌, length};
+ghost use Rattle.nn_server.specs.Codes.{code_of};
 ghost use Rattle.nn_top.specs.Words.{texts};
 ghost use Rattle.nn_top.specs.Wanted.{dirs_in};
 ghost use Rattle.nn_top.specs.Commands.{Asks, HaveNoReading};
@@ -18,8 +19,15 @@ pub fn run<R: Files + Print + Input + Drop>(rt: R, alloc: Global, words: &[Strin
     match dirs_of(alloc, words) {
         Ok(dirs) => run_over(rt, alloc, words, dirs),
         Err(WordsFault::Usage) => run_unread(rt, alloc, words),
-        Err(WordsFault::Memory) => Status::Memory.code(),
+        Err(WordsFault::Memory) => starved(),
     }
+}
+
+// The exit status where memory ran out before the run.
+fn starved() -> u8
+    ensures { result ≡ code_of Status.Memory }
+{
+    Status::Memory.code()
 }
 
 fn run_over<R: Files + Print + Input + Drop>(
@@ -34,7 +42,7 @@ fn run_over<R: Files + Print + Input + Drop>(
     let mut source = StdSource::new(&rt);
     match FileHost::open(rt, alloc, dirs) {
         Ok(mut host) => namenode(alloc, words, &mut source, &mut host).code(),
-        Err(NoMemory) => Status::Memory.code(),
+        Err(NoMemory) => starved(),
     }
 }
 
@@ -46,6 +54,6 @@ fn run_unread<R: Files + Print + Input + Drop>(rt: R, alloc: Global, words: &[St
     let mut source = StdSource::new(&rt);
     match FileHost::open(rt, alloc, Vec::new(alloc)) {
         Ok(mut host) => namenode(alloc, words, &mut source, &mut host).code(),
-        Err(NoMemory) => Status::Memory.code(),
+        Err(NoMemory) => starved(),
     }
 }

@@ -1,5 +1,5 @@
 -- A run over the lines of a script, from line to line.
-use Rattle.std.proofs.Common.{◌≡◌, ℕ, ◌+◌, ◌≤◌, List, [], ◌∷◌, ◌++◌, length, take, length-append, append_assoc, sym, ap, ◌∙◌, refl, subst, arith}
+use Rattle.std.proofs.Common.{◌≡◌, ℕ, ◌+◌, ◌≤◌, List, [], ◌∷◌, ◌++◌, length, take, length-append, append_assoc, sym, ap, ◌∙◌, refl, subst, false, arith}
 use Rattle.std.specs.Prelude.{Err}
 use Rattle.std.specs.List.{concat}
 use Rattle.std.specs.Str.Lines.{strip_carriage_return}
@@ -18,13 +18,15 @@ use Rattle.nn_server.specs.declared.session.Unsaid.TheVariants as unsaid
 use Rattle.nn_server.specs.declared.reader.Next.{Next}
 use Rattle.nn_server.specs.declared.reader.Next.TheVariants as next
 use Rattle.nn_server.specs.Reader.{EndedLine, LastLine, NoLine, PastBudget, Stopped, IsNext}
-use Rattle.nn_server.specs.Ends.{DryEndsBy}
-use Rattle.nn_server.specs.Saying.{SaysAll, BreaksOff, pieces_of}
+use Rattle.nn_server.specs.Came.{is_out_fault, CameTo}
+use Rattle.nn_server.specs.Codes.{dry_status}
+use Rattle.nn_server.specs.Saying.{CutOff, SaysAll, BreaksOff, pieces_of}
 use Rattle.nn_server.specs.Answered.{Answered}
 use Rattle.nn_base.specs.Limits.{most_script}
-use Rattle.nn_server.specs.Dry.{due_lines, pieces_to, DryGives, dry_end, IsReadBy, DryRan}
+use Rattle.nn_server.specs.Dry.{due_lines, pieces_to, AnswersTo, AreRead, DrySays, FitsTaken, OfScript, dry_end, source_counts, DryRan}
 use Rattle.nn_server.proofs.LinesLemmas.{Ended, stripped, ended_nothing, ended_more, lines_done, ended_done, ended_unended, lines_unended, due_short, due_first}
 use Rattle.nn_server.proofs.LongLemmas.{front_reads_alike, stripped_reads_alike}
+use Rattle.nn_server.proofs.CameLemmas.{said_since, since_is, speaks_whole, touches_none}
 use Rattle.nn_server.proofs.SayingLemmas.{concat-append, concat_pieces, says_nothing, says_then, breaks_after}
 
 -- ---- answers to lines, one behind another
@@ -41,7 +43,7 @@ pieces_append s (line ∷ lines) more = ap (λ x. pieces_of (answer_of s line).t
 pieces_more : (s : State) (lines : List Bytes) (line : Bytes) → pieces_to s (lines ++ line ∷ []) ≡ pieces_to s lines ++ pieces_of (answer_of (after_lines s lines) line).text
 pieces_more s lines line = pieces_append s lines (line ∷ []) ∙ ap (λ x. pieces_to s lines ++ x) (append-nil (pieces_of (answer_of (after_lines s lines) line).text))
 
-concat_to : (s : State) (lines : List Bytes) → concat (pieces_to s lines) ≡ answers s lines
+pub concat_to : (s : State) (lines : List Bytes) → concat (pieces_to s lines) ≡ answers s lines
 concat_to s [] = refl
 concat_to s (line ∷ lines) =
     concat-append (pieces_of (answer_of s line).text) (pieces_to (answer_of s line).after lines)
@@ -49,40 +51,54 @@ concat_to s (line ∷ lines) =
 
 -- ---- what a run did that answered these lines, or whose output failed
 
-ran : {told_host told_source : Type 0} {script left : Bytes} {old new : Host} {before after : ℕ} (result : DryEnd) (lines : List Bytes) → SaysAll told_host old new (pieces_to first_state lines)
-    → (told_source → (A : Type 0) (of : List Bytes → List A) → DryGives of script left result (of lines)) → (told_source → IsReadBy script left result)
-    → (told_source → (taken : Bytes) × (script ≡ taken ++ left) × (length taken ≤ most_script + 1)) → DryEndsBy told_host old new before after result
-    → DryRan told_host told_source script left before after old new result
-ran {old = old} result lines says gives read taken cause = record {
-  said = λ tells. (answers first_state lines, says.said tells ∙ ap (λ x. old.now.said ++ x) (concat_to first_state lines), λ reads. gives reads ℕ (answers first_state));
-  calls = λ tells. (pieces_to first_state lines, says.calls tells, λ reads. gives reads Bytes (pieces_to first_state));
-  read = read;
-  taken = taken;
-  kept = says.answered.untouched;
-  cause = cause;
+-- what was taken and read, whatever was said
+record Taking (told_source : Type 0) (script left : Bytes) (lines : List Bytes) (end : DryEnd) : Type 0 where
+  taken : Bytes
+  fits : FitsTaken (length taken) end
+  lines_are : AreRead taken taken end lines
+  of_script : told_source → OfScript script left taken lines end
+
+ran : {told_host told_source : Type 0} {script left : Bytes} {old new : Host} {before after : ℕ} {lines : List Bytes} (result : DryEnd) (answered : List Bytes) → is_out_fault (dry_status result) ≡ false
+    → SaysAll told_host old new (pieces_to first_state answered) → Taking told_source script left lines result → ((text : Bytes) (pieces : List Bytes) → AnswersTo answered text pieces → DrySays lines result text pieces)
+    → after ≡ source_counts before result → CameTo told_host old new dry_status (DryRan told_host told_source script left before after old new) result
+ran {old = old} {lines = lines} result answered unfailed says taking so counted = record {
+  lines = answers first_state answered;
+  speaks = speaks_whole (dry_status result) unfailed says.answered.out says.answered.out_faults (λ tells. says.said tells ∙ ap (λ x. old.now.said ++ x) (concat_to first_state answered));
+  ran = record {
+    taken = taking.taken;
+    lines = lines;
+    fits = taking.fits;
+    lines_are = taking.lines_are;
+    of_script = taking.of_script;
+    said = λ tells. (pieces_to first_state answered, says.calls tells, so (answers first_state answered) (pieces_to first_state answered) (record { are = refl; in_pieces = refl }));
+    dirs = touches_none says.answered;
+    counted = counted;
+  };
 }
 
 ran_broken : {told_host told_source : Type 0} {script left : Bytes} {old new : Host} {before after : ℕ} (lines : List Bytes) → BreaksOff told_host old new (pieces_to first_state lines)
-    → (told_source → (later : List Bytes) × (due_lines script ≡ lines ++ later)) → (told_source → (taken : Bytes) × (script ≡ taken ++ left) × (length taken ≤ most_script + 1)) → after ≡ before
-    → DryRan told_host told_source script left before after old new end.OutFault
-ran_broken {told_source = told_source} {script} lines broken due taken faults = record {
-  said = λ tells. let cut = broken.said tells in (
-    cut.0,
-    cut.3,
-    λ reads. (cut.1 ++ concat (rest reads), sym (concat_to first_state (due_lines script)) ∙ ap concat (all reads) ∙ concat-append (pieces_to first_state lines) (rest reads) ∙ ap (λ x. x ++ concat (rest reads)) cut.2 ∙ append_assoc cut.0 cut.1 (concat (rest reads))),
-  );
-  calls = λ tells. let cut = broken.calls tells in (cut.0, cut.3, λ reads. (cut.1 ++ rest reads, all reads ∙ ap (λ x. x ++ rest reads) cut.2 ∙ append_assoc cut.0 cut.1 (rest reads)));
-  read = λ reads. tt;
-  taken = taken;
-  kept = broken.failed.untouched;
-  cause = (broken.failed, faults);
+    → Taking told_source script left lines end.OutFault → after ≡ before → CameTo told_host old new dry_status (DryRan told_host told_source script left before after old new) end.OutFault
+ran_broken {old = old} {new = new} lines broken taking counted = record {
+  lines = said_since old new;
+  speaks = record {
+    said = λ tells. let cut = broken.cut tells in cut.3 ∙ ap (λ x. old.now.said ++ x) (sym (since_is old new cut.0 cut.3));
+    counted = broken.failed.out_faults;
+    silent = broken.failed.silent;
+    whole = λ is. cc;
+  };
+  ran = record {
+    taken = taking.taken;
+    lines = lines;
+    fits = taking.fits;
+    lines_are = taking.lines_are;
+    of_script = taking.of_script;
+    said = λ tells.
+        let cut = broken.cut tells in
+        (cut.1, cut.4, subst (λ (text : Bytes). CutOff (pieces_to first_state lines) text cut.1) (sym (since_is old new cut.0 cut.3)) cut.2);
+    dirs = record { kept = broken.failed.untouched; faults = broken.failed.faults; reads = broken.failed.reads };
+    counted = counted;
+  };
 }
-  where
-    rest : told_source → List Bytes
-    rest reads = pieces_to (after_lines first_state lines) (due reads).0
-
-    all : (reads : told_source) → pieces_to first_state (due_lines script) ≡ pieces_to first_state lines ++ pieces_to (after_lines first_state lines) (due reads).0
-    all reads = ap (pieces_to first_state) (due reads).1 ∙ pieces_append first_state lines (due reads).0
 
 -- ---- so far
 
@@ -132,8 +148,11 @@ past_read_so {told} {before} {after} {budget} budget_after line read is e = subs
 pub record NextDue (told_source : Type 0) (script left : Bytes) (before : List Bytes) (s : State) (line : Bytes) : Type 0 where
   pub whole : Bytes
   pub alike : answer_of s line ≡ answer_of (after_lines first_state before) whole
+  pub taken : Bytes
+  pub few : length taken ≤ most_script
+  pub read : (later : List Bytes) × (due_lines taken ≡ (before ++ whole ∷ []) ++ later)
+  pub split : told_source → script ≡ taken ++ left
   pub due : told_source → (later : List Bytes) × (due_lines script ≡ (before ++ whole ∷ []) ++ later)
-  pub taken : told_source → (taken : Bytes) × (script ≡ taken ++ left) × (length taken ≤ most_script + 1)
 
 no_more : (ahead left : Bytes) → ahead ++ left ≡ [] → left ≡ []
 no_more [] left e = e
@@ -145,53 +164,62 @@ pub line_due : {told_host told_source : Type 0} {script : Bytes} {old mid : Host
 line_due {told_source = told_source} {script} {line = line} ahead left room so_far next = record {
   whole = strip_carriage_return next.body;
   alike = (λ i. answer_of (so_far.scene i) line) ∙ ap (reply_by (after_lines first_state (stripped so_far.parts))) (ap reading_of next.is ∙ stripped_reads_alike 65537 next.body (omega arith));
-  due = λ reads.
-      let first = due_first script (ahead ++ left) (ended_more next.body so_far.ended next.unended) (is reads) (omega (arith, few)) in
-      (first.0, first.1 ∙ ap (λ x. x ++ first.0) (map-append strip_carriage_return so_far.parts (next.body ∷ [])));
-  taken = λ reads. ((so_far.done ++ (next.body ++ 10 ∷ [])) ++ ahead, is reads ∙ sym (append_assoc (so_far.done ++ (next.body ++ 10 ∷ [])) ahead left), omega (arith, few, length-append (so_far.done ++ (next.body ++ 10 ∷ [])) ahead));
+  taken = front ++ ahead;
+  few = few;
+  read = first (front ++ ahead) ahead refl;
+  split = λ reads. is reads ∙ sym (append_assoc front ahead left);
+  due = λ reads. first script (ahead ++ left) (is reads);
 }
   where
+    front : Bytes
+    front = so_far.done ++ (next.body ++ 10 ∷ [])
+
     is : told_source → script ≡ (so_far.done ++ (next.body ++ 10 ∷ [])) ++ (ahead ++ left)
     is reads = so_far.bytes reads ∙ ap (λ x. so_far.done ++ x) (next.bytes reads ∙ sym (append_assoc next.body (10 ∷ []) (ahead ++ left))) ∙ sym (append_assoc so_far.done (next.body ++ 10 ∷ []) (ahead ++ left))
 
-    few : length (so_far.done ++ (next.body ++ 10 ∷ [])) + length ahead ≤ most_script
-    few = omega (arith, so_far.within, next.budget, length-append so_far.done (next.body ++ 10 ∷ []), length-append next.body (10 ∷ []))
+    few : length ((so_far.done ++ (next.body ++ 10 ∷ [])) ++ ahead) ≤ most_script
+    few = omega (arith, so_far.within, next.budget, length-append so_far.done (next.body ++ 10 ∷ []), length-append next.body (10 ∷ []), length-append (so_far.done ++ (next.body ++ 10 ∷ [])) ahead)
+
+    first : (bytes rest : Bytes) → bytes ≡ (so_far.done ++ (next.body ++ 10 ∷ [])) ++ rest → (later : List Bytes) × (due_lines bytes ≡ (stripped so_far.parts ++ strip_carriage_return next.body ∷ []) ++ later)
+    first bytes rest e =
+        let due = due_first bytes rest (ended_more next.body so_far.ended next.unended) e (omega (arith, few, length-append (so_far.done ++ (next.body ++ 10 ∷ [])) ahead)) in
+        (due.0, due.1 ∙ ap (λ x. x ++ due.0) (map-append strip_carriage_return so_far.parts (next.body ∷ [])))
 
 -- the last line, which no newline ends
-record LastDue (told_source : Type 0) (script left : Bytes) (lines : List Bytes) : Type 0 where
-  short : told_source → length script ≤ most_script
+record LastDue (told_source : Type 0) (script left taken : Bytes) (lines : List Bytes) : Type 0 where
+  few : length taken ≤ most_script
+  read : lines ≡ lines_of taken
   none : told_source → left ≡ []
-  lines_are : told_source → lines_of script ≡ lines
-  taken : told_source → (taken : Bytes) × (script ≡ taken ++ left) × (length taken ≤ most_script + 1)
+  is : told_source → script ≡ taken
 
 last_due : {told_host told_source : Type 0} {script : Bytes} {old mid : Host} {rest : Bytes} {budget budget_after : ℕ} {s : State} {line : Bytes} (ahead left : Bytes)
     → (so_far : SoFar told_host told_source script old mid rest budget s) (last : LastLine told_source rest (ahead ++ left) budget budget_after line)
-    → LastDue told_source script left (stripped so_far.parts ++ last.body ∷ [])
-last_due {told_source = told_source} {script} ahead left so_far last = record {
-  short = short;
-  none = none;
-  lines_are = λ reads. ap lines_of (is reads) ∙ lines_done last.body so_far.ended ∙ ap (λ x. stripped so_far.parts ++ x) (lines_unended last.body last.unended last.some);
-  taken = λ reads. (script, sym (append-nil script) ∙ ap (λ x. script ++ x) (sym (none reads)), omega (arith, short reads));
+    → LastDue told_source script left (so_far.done ++ last.body) (stripped so_far.parts ++ last.body ∷ [])
+last_due ahead left so_far last = record {
+  few = omega (arith, length-append so_far.done last.body, so_far.within, last.budget);
+  read = sym (lines_done last.body so_far.ended ∙ ap (λ x. stripped so_far.parts ++ x) (lines_unended last.body last.unended last.some));
+  none = λ reads. no_more ahead left (last.none reads);
+  is = λ reads. so_far.bytes reads ∙ ap (λ x. so_far.done ++ x) (last.bytes reads);
 }
-  where
-    none : told_source → left ≡ []
-    none reads = no_more ahead left (last.none reads)
 
-    is : told_source → script ≡ so_far.done ++ last.body
-    is reads = so_far.bytes reads ∙ ap (λ x. so_far.done ++ x) (last.bytes reads)
-
-    short : told_source → length script ≤ most_script
-    short reads = omega (arith, ap length (is reads), length-append so_far.done last.body, so_far.within, last.budget)
+last_split : {script left taken : Bytes} → script ≡ taken → left ≡ [] → script ≡ taken ++ left
+last_split {taken = taken} is none = is ∙ sym (append-nil taken) ∙ ap (λ x. taken ++ x) (sym none)
 
 pub last_line_due : {told_host told_source : Type 0} {script : Bytes} {old mid : Host} {rest : Bytes} {budget budget_after : ℕ} {s : State} {line : Bytes} (ahead left : Bytes)
     → (so_far : SoFar told_host told_source script old mid rest budget s) → LastLine told_source rest (ahead ++ left) budget budget_after line
     → NextDue told_source script left (stripped so_far.parts) s line
 last_line_due {script = script} {line = line} ahead left so_far last =
-    let due = last_due ahead left so_far last in record {
+    let due = last_due ahead left so_far last in
+    let lines = stripped so_far.parts ++ last.body ∷ [] in
+    let taken = so_far.done ++ last.body in
+    let read : due_lines taken ≡ lines ++ [] = due_short taken due.few ∙ sym due.read ∙ sym (append-nil lines) in record {
       whole = last.body;
       alike = (λ i. answer_of (so_far.scene i) line) ∙ ap (reply_by (after_lines first_state (stripped so_far.parts))) (ap reading_of last.is ∙ front_reads_alike 65537 last.body (omega arith));
-      due = λ reads. ([], due_short script (due.short reads) ∙ due.lines_are reads ∙ sym (append-nil (stripped so_far.parts ++ last.body ∷ [])));
-      taken = due.taken;
+      taken = taken;
+      few = due.few;
+      read = ([], read);
+      split = λ reads. last_split (due.is reads) (due.none reads);
+      due = λ reads. ([], ap due_lines (due.is reads) ∙ read);
     }
 
 -- the pieces up to and with its answer were said
@@ -222,41 +250,54 @@ so_far_more {told_host} {old = old} {new = new} ahead left room so_far next answ
 
 -- the script was at its end
 pub ending_done : {told_host told_source : Type 0} {script : Bytes} {old new : Host} {rest : Bytes} {budget before after : ℕ} {s : State} (ahead left : Bytes)
-    → SoFar told_host told_source script old new rest budget s → NoLine told_source rest (ahead ++ left) → after ≡ before → DryRan told_host told_source script left before after old new end.Done
-ending_done {told_source = told_source} {script} ahead left so_far none faults = ran end.Done (stripped so_far.parts) so_far.says
-    (λ reads A of. ap of (sym (all reads)))
-    (λ reads. (short reads, no_more ahead left (none.none reads)))
-    (λ reads. (script, sym (append-nil script) ∙ ap (λ x. script ++ x) (sym (no_more ahead left (none.none reads))), omega (arith, short reads)))
-    (so_far.says.answered, faults)
+    → SoFar told_host told_source script old new rest budget s → NoLine told_source rest (ahead ++ left) → after ≡ before
+    → CameTo told_host old new dry_status (DryRan told_host told_source script left before after old new) end.Done
+ending_done {told_source = told_source} {script} ahead left so_far none counted = ran end.Done (stripped so_far.parts) refl so_far.says
+    (record {
+      taken = so_far.done;
+      fits = omega (arith, so_far.within);
+      lines_are = sym (all so_far.done (sym (append-nil so_far.done)));
+      of_script = λ reads. record { split = is reads ∙ ap (λ x. so_far.done ++ x) (sym (at_end reads)); rest = at_end reads; lines_are = sym (all script (is reads)) };
+    })
+    (λ text pieces given. given) counted
   where
+    at_end : told_source → left ≡ []
+    at_end reads = no_more ahead left (none.none reads)
+
     is : told_source → script ≡ so_far.done ++ []
     is reads = so_far.bytes reads ∙ ap (λ x. so_far.done ++ x) (none.bytes reads)
 
-    short : told_source → length script ≤ most_script
-    short reads = omega (arith, ap length (is reads), length-append so_far.done [], so_far.within)
-
-    all : told_source → lines_of script ≡ stripped so_far.parts
-    all reads = ap lines_of (is reads) ∙ lines_done [] so_far.ended ∙ append-nil (stripped so_far.parts)
+    all : (bytes : Bytes) → bytes ≡ so_far.done ++ [] → lines_of bytes ≡ stripped so_far.parts
+    all bytes e = ap lines_of e ∙ lines_done [] so_far.ended ∙ append-nil (stripped so_far.parts)
 
 -- its last line was answered
 pub ending_last : {told_host told_source : Type 0} {script : Bytes} {old mid new : Host} {rest : Bytes} {budget budget_after before after : ℕ} {s : State} {line : Bytes} (ahead left : Bytes)
     → SoFar told_host told_source script old mid rest budget s → LastLine told_source rest (ahead ++ left) budget budget_after line → SaysAll told_host mid new (pieces_of (answer_of s line).text) → after ≡ before
-    → DryRan told_host told_source script left before after old new end.Done
+    → CameTo told_host old new dry_status (DryRan told_host told_source script left before after old new) end.Done
 unfolding last_line_due
-ending_last ahead left so_far last said faults =
+ending_last ahead left so_far last said counted =
     let due = last_due ahead left so_far last in
-    let says = says_due so_far.says (last_line_due ahead left so_far last) said in
-    ran end.Done (stripped so_far.parts ++ last.body ∷ []) says (λ reads A of. ap of (sym (due.lines_are reads))) (λ reads. (due.short reads, due.none reads)) due.taken (says.answered, faults)
+    ran end.Done (stripped so_far.parts ++ last.body ∷ []) refl (says_due so_far.says (last_line_due ahead left so_far last) said)
+    (record {
+      taken = so_far.done ++ last.body;
+      fits = due.few;
+      lines_are = due.read;
+      of_script = λ reads. record { split = last_split (due.is reads) (due.none reads); rest = due.none reads; lines_are = due.read ∙ ap lines_of (sym (due.is reads)) };
+    })
+    (λ text pieces given. given) counted
 
 -- it has more bytes than it may have
 pub ending_long : {told_host told_source : Type 0} {script : Bytes} {old new : Host} {rest : Bytes} {budget before after : ℕ} {s : State} (ahead left : Bytes)
     → SoFar told_host told_source script old new rest budget s → PastBudget told_source rest (ahead ++ left) budget → ahead ≡ [] → after ≡ before
-    → DryRan told_host told_source script left before after old new end.ScriptTooLong
-ending_long {told_source = told_source} {script} ahead left so_far past none faults = ran end.ScriptTooLong (stripped so_far.parts) so_far.says
-    (λ reads A of. ap of (sym (all reads)))
-    (λ reads. omega (arith, ap length (is reads), length-append front (past.byte ∷ left), len))
-    (λ reads. (front ++ past.byte ∷ [], is reads ∙ sym (append_assoc front (past.byte ∷ []) left), omega (arith, len, length-append front (past.byte ∷ []))))
-    (so_far.says.answered, faults)
+    → CameTo told_host old new dry_status (DryRan told_host told_source script left before after old new) end.ScriptTooLong
+ending_long {told_source = told_source} {script} ahead left so_far past none counted = ran end.ScriptTooLong (stripped so_far.parts) refl so_far.says
+    (record {
+      taken = front ++ past.byte ∷ [];
+      fits = omega (arith, len, length-append front (past.byte ∷ []));
+      lines_are = sym (all (front ++ past.byte ∷ []) (past.byte ∷ []) refl);
+      of_script = λ reads. record { split = is reads ∙ sym (append_assoc front (past.byte ∷ []) left); rest = tt; lines_are = sym (all script (past.byte ∷ left) (is reads)) };
+    })
+    (λ text pieces given. given) counted
   where
     front : Bytes
     front = so_far.done ++ past.body
@@ -267,46 +308,55 @@ ending_long {told_source = told_source} {script} ahead left so_far past none fau
     is : told_source → script ≡ (so_far.done ++ past.body) ++ past.byte ∷ left
     is reads = so_far.bytes reads ∙ ap (λ x. so_far.done ++ x) (past.bytes reads ∙ ap (λ x. past.body ++ past.byte ∷ (x ++ left)) none) ∙ sym (append_assoc so_far.done past.body (past.byte ∷ left))
 
-    all : told_source → ended_lines (take most_script script) ≡ stripped so_far.parts
-    all reads = ap (λ x. ended_lines (take most_script x)) (is reads) ∙ ap ended_lines (take_at (so_far.done ++ past.body) (past.byte ∷ left) most_script len)
+    all : (bytes more : Bytes) → bytes ≡ (so_far.done ++ past.body) ++ more → ended_lines (take most_script bytes) ≡ stripped so_far.parts
+    all bytes more e = ap (λ x. ended_lines (take most_script x)) e ∙ ap ended_lines (take_at (so_far.done ++ past.body) more most_script len)
         ∙ ended_done past.body so_far.ended ∙ ap (λ x. stripped so_far.parts ++ x) (ended_unended past.body past.unended) ∙ append-nil (stripped so_far.parts)
 
 -- the source failed
 pub ending_failed : {told_host told_source : Type 0} {script : Bytes} {old new : Host} {rest : Bytes} {budget before after : ℕ} {s : State} (left : Bytes)
     → SoFar told_host told_source script old new rest budget s → Stopped told_source rest left budget → after ≡ next_count before
-    → DryRan told_host told_source script left before after old new end.SourceFault
-ending_failed {told_source = told_source} {script} left so_far stopped faults = ran end.SourceFault (stripped so_far.parts) so_far.says
-    (λ reads A of. (so_far.done ++ stopped.body, is reads, ap of (sym all)))
-    (λ reads. tt)
-    (λ reads. (so_far.done ++ stopped.body, is reads, omega (arith, length-append so_far.done stopped.body, so_far.within, stopped.within)))
-    (so_far.says.answered, faults)
+    → CameTo told_host old new dry_status (DryRan told_host told_source script left before after old new) end.SourceFault
+ending_failed left so_far stopped counted = ran end.SourceFault (stripped so_far.parts) refl so_far.says
+    (record {
+      taken = so_far.done ++ stopped.body;
+      fits = omega (arith, length-append so_far.done stopped.body, so_far.within, stopped.within);
+      lines_are = sym all;
+      of_script = λ reads. record {
+        split = so_far.bytes reads ∙ ap (λ x. so_far.done ++ x) (stopped.bytes reads) ∙ sym (append_assoc so_far.done stopped.body left);
+        rest = tt;
+        lines_are = sym all;
+      };
+    })
+    (λ text pieces given. given) counted
   where
-    is : told_source → script ≡ (so_far.done ++ stopped.body) ++ left
-    is reads = so_far.bytes reads ∙ ap (λ x. so_far.done ++ x) (stopped.bytes reads) ∙ sym (append_assoc so_far.done stopped.body left)
-
     all : ended_lines (so_far.done ++ stopped.body) ≡ stripped so_far.parts
     all = ended_done stopped.body so_far.ended ∙ ap (λ x. stripped so_far.parts ++ x) (ended_unended stopped.body stopped.unended) ∙ append-nil (stripped so_far.parts)
 
 -- an answer wasn't said whole
 fallen : {told_host told_source : Type 0} {script left : Bytes} {old mid new : Host} {lines : List Bytes} {before after : ℕ} {s : State} {line : Bytes} (s_after : State) (why : Unsaid) → SaysAll told_host old mid (pieces_to first_state lines)
     → NextDue told_source script left lines s line → Answered told_host mid new (answer_of s line) s_after (Err why) → after ≡ before
-    → DryRan told_host told_source script left before after old new (dry_end why)
-fallen {told_host} {old = old} {new = new} {lines = lines} s_after unsaid.Memory says next nothing faults =
+    → CameTo told_host old new dry_status (DryRan told_host told_source script left before after old new) (dry_end why)
+fallen {told_host} {old = old} {new = new} {lines = lines} s_after unsaid.Memory says next nothing counted =
     let same = subst (λ (pieces : List Bytes). SaysAll told_host old new pieces) (append-nil (pieces_to first_state lines)) (says_then says nothing) in
-    ran end.Memory lines same
-    (λ reads A of. let due = next.due reads in (length lines, ap of (sym (ap (take (length lines)) (due.1 ∙ append_assoc lines (next.whole ∷ []) due.0) ∙ take-append_seam lines (next.whole ∷ due.0)))))
-    (λ reads. tt) next.taken (same.answered, faults)
-fallen {told_host} {old = old} {new = new} {lines = lines} s_after unsaid.Output says next broken faults =
+    ran end.Memory lines refl same
+    (record { taken = next.taken; fits = next.few; lines_are = next.read; of_script = λ reads. record { split = next.split reads; rest = tt; lines_are = next.due reads } })
+    (λ text pieces given. (length lines, subst (λ (first : List Bytes). AnswersTo first text pieces) (sym (take-append_seam lines (next.whole ∷ []))) given))
+    counted
+fallen {told_host} {old = old} {new = new} {lines = lines} s_after unsaid.Output says next broken counted =
     let all = subst (λ (pieces : List Bytes). BreaksOff told_host old new pieces)
     (ap (λ r. pieces_to first_state lines ++ pieces_of r.text) next.alike ∙ sym (pieces_more first_state lines next.whole)) (breaks_after says broken) in
-    ran_broken (lines ++ next.whole ∷ []) all next.due next.taken faults
+    ran_broken (lines ++ next.whole ∷ []) all
+    (record { taken = next.taken; fits = next.few; lines_are = next.read; of_script = λ reads. record { split = next.split reads; rest = tt; lines_are = next.due reads } })
+    counted
 
 pub ending_unsaid : {told_host told_source : Type 0} {script left : Bytes} {old mid new : Host} {lines : List Bytes} {before after : ℕ} {s : State} {line : Bytes} {result : DryEnd} (s_after : State) (why : Unsaid)
     → SaysAll told_host old mid (pieces_to first_state lines) → NextDue told_source script left lines s line → Answered told_host mid new (answer_of s line) s_after (Err why) → after ≡ before → result ≡ dry_end why
-    → DryRan told_host told_source script left before after old new result
-ending_unsaid {told_host} {told_source} {script} {left} {old} {new = new} {before = before} {after = after} s_after why says next answered faults is =
-    subst (λ (e : DryEnd). DryRan told_host told_source script left before after old new e) (sym is) (fallen s_after why says next answered faults)
+    → CameTo told_host old new dry_status (DryRan told_host told_source script left before after old new) result
+ending_unsaid {told_host} {told_source} {script} {left} {old} {new = new} {before = before} {after = after} s_after why says next answered counted is =
+    subst (λ (e : DryEnd). CameTo told_host old new dry_status (DryRan told_host told_source script left before after old new) e) (sym is) (fallen s_after why says next answered counted)
 
 -- there was no memory to begin with
-pub ending_unbegun : {told_host told_source : Type 0} {old : Host} {faults : ℕ} (script : Bytes) → DryRan told_host told_source script script faults faults old old end.Memory
-ending_unbegun script = ran end.Memory [] says_nothing (λ reads A of. (0, refl)) (λ reads. tt) (λ reads. ([], refl, omega arith)) (says_nothing.answered, refl)
+pub ending_unbegun : {told_host told_source : Type 0} {old : Host} {faults : ℕ} (script : Bytes) → CameTo told_host old old dry_status (DryRan told_host told_source script script faults faults old old) end.Memory
+ending_unbegun script = ran {lines = []} end.Memory [] refl says_nothing
+    (record { taken = []; fits = omega arith; lines_are = (due_lines [], refl); of_script = λ reads. record { split = refl; rest = tt; lines_are = (due_lines script, refl) } })
+    (λ text pieces given. (0, given)) refl

@@ -11,18 +11,22 @@ use Rattle.nn_host.proofs.WorkLemmas.{each_dir_said}
 use Rattle.nn_host.proofs.LeftLemmas.{each_since}
 use Rattle.nn_marks.specs.declared.version.Version.{Version}
 use Rattle.nn_state.specs.Typed.{FitsFresh}
+use Rattle.nn_pick.specs.declared.fault.OpenFault.{OpenFault}
+use Rattle.nn_pick.specs.declared.fault.OpenFault.TheVariants as fault
+use Rattle.nn_pick.specs.declared.refusal.Refusal.{Refusal}
 use Rattle.nn_pick.specs.Dirs.{EachChoice}
 use Rattle.nn_pick.proofs.VersionLemmas.{SaysTheSame}
 use Rattle.nn_open.specs.Formatted.{IsFormatted, ReadsFormatted, OpensEmpty, OpenEmptySoundly}
-use Rattle.nn_open.specs.Answers.{AllFresh, AllFormatted, EachFreshOrNew, EachAsBefore, first_unformattable}
+use Rattle.nn_open.specs.Answers.{AllFresh, AllFormatted, EachFreshOrNew, EachAsBefore, IsRefused, IsCountedBy, first_unformattable}
 use Rattle.nn_open.proofs.LeftLemmas.{fresh_left, left_fresh, formatted_left}
 use Rattle.nn_open.proofs.OpeningLemmas.{formatted_opens, choices_open}
 use Rattle.nn_server.specs.declared.status.Status.TheVariants as status
 use Rattle.nn_server.specs.declared.format_run.FormatEnd.{FormatEnd}
 use Rattle.nn_server.specs.declared.format_run.FormatEnd.TheVariants.{Done, OutFault}
+use Rattle.nn_server.specs.declared.format_run.FormatEnd.TheVariants as end
 use Rattle.nn_server.specs.Lines.{formatted_line}
 use Rattle.nn_server.specs.Came.{is_out_fault, CameTo, Counts}
-use Rattle.nn_server.specs.Format.{IsNewVersion, FreshOrAsked, EachFreshOrAsked, LeftFreshOrAsked, LeftByFormat, StopsFreshOrAsked, FormatDid, FormatRan, format_status, format_failed}
+use Rattle.nn_server.specs.Format.{IsNewVersion, FreshOrAsked, EachFreshOrAsked, LeftFreshOrAsked, LeftByFormat, StopsFreshOrAsked, FormatDid, FormatRan, format_status, format_failed, unformatted}
 use Rattle.nn_server.proofs.CameLemmas.{said_since, speaks_whole, speaks_cut, cut_since}
 
 -- ---- after a stop
@@ -85,7 +89,7 @@ formatting_said f spoke = record { each = λ tells fresh. each_dir_said (f.each 
 
 -- nothing was said
 pub format_unsaid : {told : Type 0} {cluster : Bytes} {namespace : ℕ} {a b : State} (end : FormatEnd) → is_out_fault (format_status end) ≡ false → (told → IsLawful a) → Formatting told cluster namespace a b
-    → Unspoken told a b → (told → FormatDid cluster namespace a b [] end) → Counts (format_failed end) a b → CameTo told a b format_status (FormatRan told cluster namespace a b) end
+    → Unspoken told a b → (told → FormatDid cluster namespace a b [] end) → Counts (format_failed end) a b → CameTo told a b format_status (λ lines trace. FormatRan told cluster namespace a b lines) end
 format_unsaid {a = a} end unfailed lawful f quiet did counted = record {
   lines = [];
   speaks = speaks_whole (format_status end) unfailed (out_whole_unspoken quiet) quiet.now.out_faults (λ tells. quiet.now.said ∙ sym (append-nil a.now.said));
@@ -97,6 +101,18 @@ format_unsaid {a = a} end unfailed lawful f quiet did counted = record {
     counted = counted;
   };
 }
+
+-- formatting failed
+unformatted_so : {told : Type 0} {cluster : Bytes} {namespace : ℕ} {a b : State} (why : OpenFault) → (told → IsLawful a) → Formatting told cluster namespace a b → Unspoken told a b
+    → (told → (refusal : Refusal) → why ≡ fault.Refused refusal → IsRefused refusal a b) → IsCountedBy a b (Err why) → CameTo told a b format_status (λ lines trace. FormatRan told cluster namespace a b lines) (unformatted why)
+unformatted_so (fault.Refused refusal) lawful f quiet refused counted = format_unsaid (end.Refused refusal) refl lawful f quiet (λ tells. (refused tells refusal refl, refl)) counted
+unformatted_so (fault.Failed i) lawful f quiet refused counted = format_unsaid (end.HostFault i) refl lawful f quiet (λ tells. refl) counted
+unformatted_so fault.Memory lawful f quiet refused counted = format_unsaid end.Memory refl lawful f quiet (λ tells. refl) counted
+
+pub format_refused : {told : Type 0} {cluster : Bytes} {namespace : ℕ} {a b : State} (why : OpenFault) (result : FormatEnd) → result ≡ unformatted why → (told → IsLawful a) → Formatting told cluster namespace a b → Unspoken told a b
+    → (told → (refusal : Refusal) → why ≡ fault.Refused refusal → IsRefused refusal a b) → IsCountedBy a b (Err why) → CameTo told a b format_status (λ lines trace. FormatRan told cluster namespace a b lines) result
+format_refused {told} {cluster} {namespace} {a} {b} why result is lawful f quiet refused counted =
+    subst (λ (e : FormatEnd). CameTo told a b format_status (λ lines trace. FormatRan told cluster namespace a b lines) e) (sym is) (unformatted_so why lawful f quiet refused counted)
 
 -- what is said after it changes no directory
 formatted_said : {T E told : Type 0} {bytes : Bytes} {a b c : State} {result : Result T E} (version : Version) → AllFormatted version a b → Spoke told bytes b c result → AllFormatted version a c
@@ -114,7 +130,7 @@ counts_said counts spoke = record { faults = λ j. ap (λ (dirs : ℕ → Dir). 
 -- the number of directories was said
 pub format_done : {T E told : Type 0} {cluster line : Bytes} {namespace : ℕ} {a b c : State} {v : T} (version : Version) → IsNewVersion cluster namespace version → (told → IsLawful a)
     → Formatting told cluster namespace a b → Unspoken told a b → (told → AllFormatted version a b) → SameCounts a b → line ≡ formatted_line b.count → Spoke {T = T} {E = E} told line b c (Ok v)
-    → CameTo told a c format_status (FormatRan told cluster namespace a c) Done
+    → CameTo told a c format_status (λ lines trace. FormatRan told cluster namespace a c lines) Done
 format_done {T} {E} {told} {cluster} {line} {namespace} {a} {b} {c} version is lawful f quiet formatted counts count spoke = record {
   lines = formatted_line a.count;
   speaks = speaks_whole status.Ok refl (out_whole_trans (out_whole_unspoken quiet) (out_spoke spoke)) (spoke.counted_ok ∙ quiet.now.out_faults) (λ tells. (spoke.ok tells).said ∙ (λ k. quiet.now.said k ++ (count ∙ ap formatted_line quiet.each.count) k));
@@ -133,7 +149,7 @@ format_done {T} {E} {told} {cluster} {line} {namespace} {a} {b} {c} version is l
 -- the output failed over it
 pub format_cut : {T E told : Type 0} {cluster line : Bytes} {namespace : ℕ} {a b c : State} {e : E} (version : Version) → IsNewVersion cluster namespace version → (told → IsLawful a)
     → Formatting told cluster namespace a b → Unspoken told a b → (told → AllFormatted version a b) → SameCounts a b → line ≡ formatted_line b.count → Spoke {T = T} {E = E} told line b c (Err e)
-    → CameTo told a c format_status (FormatRan told cluster namespace a c) OutFault
+    → CameTo told a c format_status (λ lines trace. FormatRan told cluster namespace a c lines) OutFault
 format_cut {T} {E} {told} {cluster} {line} {namespace} {a} {b} {c} version is lawful f quiet formatted counts count spoke = record {
   lines = said_since a c;
   speaks = speaks_cut [] (out_whole_unspoken quiet) quiet.now.out_faults before spoke;

@@ -17,6 +17,7 @@ use Rattle.nn_tree.specs.Namespace.{Namespace, Nodes, node_count, usage_of}
 use Rattle.nn_tree.specs.Walks.{Obstacle, Absent, AFile, obstacle}
 use Rattle.nn_tree.specs.Spots.{last_name, IsSound}
 use Rattle.nn_tree.specs.Below.{entries_below, visited}
+use Rattle.nn_tree.proofs.SoundLemmas.{last_name_push}
 use Rattle.nn_ops.specs.declared.refusal.OpRefusal.{OpRefusal}
 use Rattle.nn_ops.specs.declared.refusal.OpRefusal.TheVariants.{NotFound, NotDir}
 use Rattle.nn_base.specs.First.{when, first_of}
@@ -38,11 +39,6 @@ pub text_child : (p : Names) (name : Bytes) → text_of (p ++ name ∷ []) ≡ j
 text_child [] name = refl
 text_child (first ∷ p) name = refl
 
-pub last_child : (p : Names) (name : Bytes) → last_name (p ++ name ∷ []) ≡ name
-last_child [] name = refl
-last_child (first ∷ []) name = refl
-last_child (first ∷ next ∷ p) name = last_child (next ∷ p) name
-
 pub text_below : (at p : Names) (name : Bytes) → at ≡ p ++ name ∷ [] → text_of at ≡ joined at
 text_below at p name is = ap text_of is ∙ text_child p name ∙ ap joined (sym is)
 
@@ -53,13 +49,13 @@ escaped-append text more = flat_map-append escaped_byte text more
 pub names_more : (at p : Names) (name last : Bytes) → at ≡ p ++ name ∷ [] → last ≡ last_name at → escaped (joined at) ≡ escaped (joined p) ++ 47 ∷ escaped last
 names_more at p name last is same =
     ap (λ x. escaped (joined x)) is ∙ ap escaped (joined_child p name) ∙ escaped-append (joined p) (47 ∷ name)
-    ∙ ap (λ x. escaped (joined p) ++ 47 ∷ escaped x) (sym (same ∙ ap last_name is ∙ last_child p name))
+    ∙ ap (λ x. escaped (joined p) ++ 47 ∷ escaped x) (sym (same ∙ ap last_name is ∙ last_name_push p name))
 
 -- the name of a node that is there
 pub name_fits : {ns : Namespace} {has : Spot → Bool} {place : Spot → Names} (at : Spot) (p : Names) (name last : Bytes) → IsSound ns has place → has at ≡ true → place at ≡ p ++ name ∷ [] → last ≡ last_name (place at) → length last ≤ 255
 name_fits {ns} at p name last sound there is same =
     let named = sound.formed.names p name (ap (λ x. is_some (get ns.nodes x)) (sym is) ∙ sound.named at there) in
-    let same_name : last ≡ name = same ∙ ap last_name is ∙ last_child p name in
+    let same_name : last ≡ name = same ∙ ap last_name is ∙ last_name_push p name in
     omega (arith, name_is_short name named, ap length same_name)
 
 -- ---- one piece more

@@ -9,9 +9,9 @@ use Rattle.std.proofs.lemmas.Bool.Decides.{nat_tests}
 use Rattle.nn_base.specs.Paths.{Bytes}
 use Rattle.nn_host.specs.Sources.{Took}
 use Rattle.nn_server.specs.declared.reader.Next.{Next}
-use Rattle.nn_server.specs.declared.reader.Next.TheVariants.{Line, Last, End, TooLong}
-use Rattle.nn_server.specs.Reading.{front_of, kept_of}
-use Rattle.nn_server.specs.Reader.{EndedLine, IsNext, Stopped, PartRead, HasRead, Refilled, IsPastRoom}
+use Rattle.nn_server.specs.declared.reader.Next.TheVariants.{TooLong}
+use Rattle.nn_server.specs.Reading.{front_of, kept_of, past_of, IsBehind}
+use Rattle.nn_server.specs.Reader.{EndedLine, IsNext, Stopped, PartRead, HasRead, Refilled}
 use Rattle.nn_base.proofs.MarkLemmas.{split_at_mark, mark_within, no_mark_before, no_mark}
 use Rattle.nn_server.proofs.BytesLemmas.{is_newline, range_rest, front_front, no_bytes}
 
@@ -81,30 +81,26 @@ pub stopped : {told : Type 0} {before after left : Bytes} {budget budget_after :
 stopped so_far same = record { body = so_far.body; unended = so_far.unended; bytes = λ tells. so_far.bytes tells ∙ ap (λ x. so_far.body ++ x) (same tells); within = omega (arith, so_far.budget) }
 
 -- all the bytes that the lines may have were read
-pub past_room : {told : Type 0} {before : Bytes} {budget room : ℕ} {ahead line : Bytes} (left left_after : Bytes) (next : Next) (budget_after : ℕ)
-    → HasRead told before (ahead ++ left) budget (length ahead + room) line → ahead ≡ [] → room ≡ 0 → budget_after ≡ length ahead + room → IsPastRoom told next line left left_after
-    → IsNext told next before (ahead ++ left_after) budget budget_after line
-past_room left left_after Line budget_after so_far none zero same past = absurd past
-past_room {ahead = ahead} {line = line} left left_after Last budget_after so_far none zero same past = record {
+pub past_room : {told : Type 0} {before : Bytes} {budget room : ℕ} {ahead line : Bytes} (left left_after : Bytes) (more : Bool) (budget_after : ℕ)
+    → HasRead told before (ahead ++ left) budget (length ahead + room) line → ahead ≡ [] → room ≡ 0 → budget_after ≡ length ahead + room → IsBehind told more left left_after
+    → IsNext told (past_of more line) before (ahead ++ left_after) budget budget_after line
+past_room {ahead = ahead} left left_after true budget_after so_far none zero same behind = record {
   body = so_far.body;
+  byte = behind.0;
   unended = so_far.unended;
-  some = λ e. past.0 (no_bytes line ((length_kept 65537 so_far.body line (omega arith) so_far.is).1 (ap length e)));
-  is = so_far.is;
-  bytes = λ tells. so_far.bytes tells ∙ (λ i. so_far.body ++ (none i ++ past.1 tells i)) ∙ append-nil so_far.body;
-  none = λ tells. (λ i. none i ++ past.2 tells i);
-  budget = omega (arith, so_far.budget, same);
-}
-past_room {ahead = ahead} {line = line} left left_after End budget_after so_far none zero same past = record {
-  bytes = λ tells. so_far.bytes tells ∙ (λ i. no_bytes so_far.body ((length_kept 65537 so_far.body line (omega arith) so_far.is).0 (ap length past.0)) i ++ (none i ++ past.1 tells i));
-  none = λ tells. (λ i. none i ++ past.2 tells i);
-}
-past_room {ahead = ahead} {line = line} left left_after TooLong budget_after so_far none zero same past = record {
-  body = so_far.body;
-  byte = past.0;
-  unended = so_far.unended;
-  bytes = λ tells. so_far.bytes tells ∙ (λ i. so_far.body ++ (none i ++ past.1 tells i)) ∙ (λ i. so_far.body ++ past.0 ∷ (sym none i ++ left_after));
+  bytes = λ tells. so_far.bytes tells ∙ (λ i. so_far.body ++ (none i ++ behind.1 tells i)) ∙ (λ i. so_far.body ++ behind.0 ∷ (sym none i ++ left_after));
   whole = omega (arith, so_far.budget, ap length none);
 }
+past_room {told} {before} {budget} {room} {ahead} {line} left left_after false budget_after so_far none zero same behind = last_line line all (λ tells. (λ i. none i ++ behind.1 tells i))
+  where
+    all : HasRead told before (ahead ++ left_after) budget budget_after line
+    all = record {
+      body = so_far.body;
+      unended = so_far.unended;
+      is = so_far.is;
+      bytes = λ tells. so_far.bytes tells ∙ ap (λ x. so_far.body ++ (ahead ++ x)) (behind.0 tells ∙ sym (behind.1 tells));
+      budget = omega (arith, so_far.budget, same);
+    }
 
 pub ended_as : {told : Type 0} {before after after' : Bytes} {budget budget_after budget_after' : ℕ} {line line' : Bytes}
     → EndedLine told before after budget budget_after line → after' ≡ after → budget_after' ≡ budget_after → line' ≡ line → EndedLine told before after' budget budget_after' line'
@@ -177,10 +173,6 @@ took_one {before} {rest} {old} {new} {n} took some one len = took.split ∙ ap (
     first [] e = absurd (omega (arith, e))
     first (x ∷ []) e = ap (λ k. take k (x ∷ [])) is
     first (x ∷ y ∷ xs) e = absurd (omega (arith, e))
-
-pub past_none : {told : Type 0} {before left : Bytes} (line : Bytes) → (told → before ≡ []) → (told → left ≡ []) → IsPastRoom told (kept_of line) line before left
-past_none [] before left = (refl, before, left)
-past_none (byte ∷ bytes) before left = ((λ e. absurd (omega (arith, ap length e))), before, left)
 
 pub refilled : {told : Type 0} {before left : Bytes} (chunk : Bytes) (count room : ℕ) → (told → before ≡ take count chunk ++ left) → (told → count ≡ 0 → before ≡ [])
     → count ≤ room → count ≤ length chunk → Refilled told (nat_lt 0 count) before left (slice_range chunk 0 count) room (room - count)

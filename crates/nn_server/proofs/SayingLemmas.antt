@@ -1,5 +1,5 @@
 -- Texts in pieces, and runs that say them.
-use Rattle.std.proofs.Common.{◌≡◌, ⊎_elim, ℕ, zero, suc, ◌+◌, ◌*◌, ◌/◌, ◌<◌, ◌≤◌, true, false, ◌==◌, List, [], ◌∷◌, ◌++◌, length, take, drop, map, Result, Ok, Err, length-append, length-drop, append_assoc, sym, ap, ◌∙◌, refl, subst, arith}
+use Rattle.std.proofs.Common.{◌≡◌, ◌⊎◌, inl, inr, ⊎_elim, ℕ, zero, suc, ◌+◌, ◌-◌, ◌*◌, ◌/◌, ◌<◌, ◌≤◌, true, false, ◌==◌, List, [], ◌∷◌, ◌++◌, length, take, drop, map, Result, Ok, Err, length-append, length-drop, append_assoc, sym, ap, ◌∙◌, refl, subst, arith}
 use Rattle.std.specs.Prelude.{IsErr}
 use Rattle.std.specs.List.{All, concat}
 use Rattle.std.proofs.lemmas.Bool.{eqb-true}
@@ -7,14 +7,15 @@ use Rattle.std.proofs.lemmas.List.{append-nil, map-append, take-append-drop, tak
 use Rattle.std.proofs.lemmas.List.Elements.{All-nil, All-cons, All-head, All-tail, All-append}
 use Rattle.nn_base.specs.Paths.{Bytes}
 use Rattle.nn_host.specs.Disk.{Reads}
-use Rattle.nn_host.specs.Moments.{State, Dir, Entry, Event, Say}
-use Rattle.nn_host.specs.Calls.{Spoke, Recorded, next_count, most_said}
+use Rattle.nn_host.specs.Moments.{State, Dir, Event, Say}
+use Rattle.nn_host.specs.Calls.{Spoke, next_count, most_said}
 use Rattle.nn_host.specs.Runs.{AllAnswered}
 use Rattle.nn_host.specs.declared.host.Failed.{Failed}
 use Rattle.nn_host.proofs.RunsLemmas.{untouched_trans, untouched_spoke, silent_after, silent_spoke, spoke_front, all_answered_refl, all_answered_trans, all_answered_spoke}
-use Rattle.nn_server.specs.Ends.{OutFailed}
-use Rattle.nn_server.specs.Saying.{first_pieces, pieces_of, calls_of, SaysAll, BreaksOff, Says, Streams, Puts}
+use Rattle.nn_server.specs.Came.{Records}
+use Rattle.nn_server.specs.Saying.{first_pieces, pieces_of, OutFailed, CutOff, SaysAll, BreaksOff, Says, Streams, Puts}
 use Rattle.nn_server.proofs.BytesLemmas.{no_bytes}
+use Rattle.nn_server.proofs.CameLemmas.{records_nothing, records_none, records_then, records_as, records_call, spoke_records}
 
 -- ---- pieces
 
@@ -29,15 +30,15 @@ pieces_none = refl
 pub pieces_one : (text : Bytes) → 0 < length text → length text ≤ most_said → pieces_of text ≡ text ∷ []
 unfolding pieces_of
 pieces_one text some fits =
-    let count : (length text + 65535) / 65536 ≡ 1 = omega arith in
+    let count : (length text + (most_said - 1)) / most_said ≡ 1 = omega arith in
     ap (λ k. first_pieces k text) count ∙ ap (λ piece. piece ∷ []) (take_all most_said text fits)
 
 pub pieces_full : (piece rest : Bytes) → length piece ≡ most_said → pieces_of (piece ++ rest) ≡ piece ∷ pieces_of rest
 unfolding pieces_of
 pieces_full piece rest full =
-    let count : (length (piece ++ rest) + 65535) / 65536 ≡ suc ((length rest + 65535) / 65536) = omega (arith, length-append piece rest, full) in
+    let count : (length (piece ++ rest) + (most_said - 1)) / most_said ≡ suc ((length rest + (most_said - 1)) / most_said) = omega (arith, length-append piece rest, full) in
     ap (λ k. first_pieces k (piece ++ rest)) count
-    ∙ (λ i. take_at piece rest most_said full i ∷ first_pieces ((length rest + 65535) / 65536) (drop_at piece rest most_said full i))
+    ∙ (λ i. take_at piece rest most_said full i ∷ first_pieces ((length rest + (most_said - 1)) / most_said) (drop_at piece rest most_said full i))
 
 pub pieces_behind : (pieces : List Bytes) (rest : Bytes) → All (λ piece. length piece ≡ most_said) pieces → pieces_of (concat pieces ++ rest) ≡ pieces ++ pieces_of rest
 pieces_behind [] rest full = refl
@@ -53,7 +54,7 @@ concat_first (suc k) text fits =
 
 pub concat_pieces : (text : Bytes) → concat (pieces_of text) ≡ text
 unfolding pieces_of
-concat_pieces text = concat_first ((length text + 65535) / 65536) text (omega arith)
+concat_pieces text = concat_first ((length text + (most_said - 1)) / most_said) text (omega arith)
 
 within_first : (k : ℕ) (text : Bytes) → All (λ piece. length piece ≤ most_said) (first_pieces k text)
 within_first zero text = All-nil (λ piece. length piece ≤ most_said)
@@ -62,7 +63,7 @@ within_first (suc k) text =
 
 pub pieces_within : (text : Bytes) → All (λ piece. length piece ≤ most_said) (pieces_of text)
 unfolding pieces_of
-pieces_within text = within_first ((length text + 65535) / 65536) text
+pieces_within text = within_first ((length text + (most_said - 1)) / most_said) text
 
 -- ---- an output that fails
 
@@ -87,59 +88,82 @@ out_failed_after p q = record {
 -- ---- pieces that are said
 
 pub says_nothing : {told : Type 0} {a : State} → SaysAll told a a []
-says_nothing {a = a} = record { answered = all_answered_refl; said = λ tells. sym (append-nil a.now.said); calls = λ tells. sym (append-nil (calls_of a)) }
+says_nothing {a = a} = record { answered = all_answered_refl; said = λ tells. sym (append-nil a.now.said); calls = λ tells. records_nothing }
 
 pub says_then : {told : Type 0} {a b c : State} {p q : List Bytes} → SaysAll told a b p → SaysAll told b c q → SaysAll told a c (p ++ q)
 says_then {a = a} {p = p} {q = q} first second = record {
   answered = all_answered_trans first.answered second.answered;
   said = λ tells. second.said tells ∙ ap (λ x. x ++ concat q) (first.said tells) ∙ append_assoc a.now.said (concat p) (concat q) ∙ ap (λ x. a.now.said ++ x) (sym (concat-append p q));
-  calls = λ tells. second.calls tells ∙ ap (λ x. x ++ map Say q) (first.calls tells) ∙ append_assoc (calls_of a) (map Say p) (map Say q) ∙ ap (λ x. calls_of a ++ x) (sym (map-append Say p q));
+  calls = λ tells. records_as (records_then (first.calls tells) (second.calls tells)) (sym (map-append Say p q));
 }
-
-recorded_calls : {event : Event} {old new : State} → Recorded event old new → calls_of new ≡ calls_of old ++ event ∷ []
-recorded_calls {event} {old} recorded =
-    ap (map (λ (e : Entry). e.event)) recorded.trace ∙ map-append (λ (e : Entry). e.event) old.trace (record { ended = old.ended; before = old.now; event = event } ∷ [])
 
 says_once : {T E told : Type 0} {bytes : Bytes} {old new : State} {v : T} → Spoke {T = T} {E = E} told bytes old new (Ok v) → SaysAll told old new (bytes ∷ [])
 says_once {bytes = bytes} {old = old} spoke = record {
   answered = all_answered_spoke spoke;
   said = λ tells. (spoke.ok tells).said ∙ ap (λ x. old.now.said ++ x) (sym (append-nil bytes));
-  calls = λ tells. recorded_calls (spoke.ok tells).recorded;
+  calls = λ tells. spoke_records spoke tells;
 }
+
+-- ---- pieces over which the output fails
+
+cut_after : (p : List Bytes) {q : List Bytes} {text : Bytes} {asked : List Bytes} → CutOff q text asked → CutOff (p ++ q) (concat p ++ text) (p ++ asked)
+cut_after p cut = record {
+  whole = p ++ cut.whole;
+  broken = cut.broken;
+  rest = cut.rest;
+  are = ap (λ x. p ++ x) cut.are ∙ sym (append_assoc p cut.whole (cut.broken ∷ cut.rest));
+  went = ⊎_elim
+      (λ (some : (n : ℕ) × (_ ≡ concat cut.whole ++ take n cut.broken) × (_ ≡ cut.whole ++ cut.broken ∷ [])). inl (
+        some.0,
+        ap (λ x. concat p ++ x) some.1 ∙ sym (append_assoc (concat p) (concat cut.whole) (take some.0 cut.broken)) ∙ ap (λ x. x ++ take some.0 cut.broken) (sym (concat-append p cut.whole)),
+        ap (λ x. p ++ x) some.2 ∙ sym (append_assoc p cut.whole (cut.broken ∷ [])),
+      ))
+      (λ (none : (_ ≡ concat cut.whole) × (_ ≡ cut.whole)). inr (ap (λ x. concat p ++ x) none.0 ∙ sym (concat-append p cut.whole), ap (λ x. p ++ x) none.1))
+      cut.went;
+}
+
+cut_more : {p : List Bytes} {text : Bytes} {asked : List Bytes} (more : List Bytes) → CutOff p text asked → CutOff (p ++ more) text asked
+cut_more more cut = record { whole = cut.whole; broken = cut.broken; rest = cut.rest ++ more; are = ap (λ x. x ++ more) cut.are ∙ append_assoc cut.whole (cut.broken ∷ cut.rest) more; went = cut.went }
+
+-- what went out is a front of them
+pub cut_front : {p : List Bytes} {text : Bytes} {asked : List Bytes} → CutOff p text asked → (later : Bytes) × (concat p ≡ text ++ later)
+cut_front {p} {text} cut = ⊎_elim
+    (λ (some : (n : ℕ) × (text ≡ concat cut.whole ++ take n cut.broken) × (_ ≡ cut.whole ++ cut.broken ∷ [])). (
+      drop some.0 cut.broken ++ concat cut.rest,
+      all ∙ ap (λ x. concat cut.whole ++ (x ++ concat cut.rest)) (sym (take-append-drop some.0 cut.broken))
+          ∙ ap (λ x. concat cut.whole ++ x) (append_assoc (take some.0 cut.broken) (drop some.0 cut.broken) (concat cut.rest))
+          ∙ sym (append_assoc (concat cut.whole) (take some.0 cut.broken) (drop some.0 cut.broken ++ concat cut.rest))
+          ∙ ap (λ x. x ++ (drop some.0 cut.broken ++ concat cut.rest)) (sym some.1),
+    ))
+    (λ (none : (text ≡ concat cut.whole) × (_ ≡ cut.whole)). (cut.broken ++ concat cut.rest, all ∙ ap (λ x. x ++ (cut.broken ++ concat cut.rest)) (sym none.0)))
+    cut.went
+  where
+    all : concat p ≡ concat cut.whole ++ (cut.broken ++ concat cut.rest)
+    all = ap concat cut.are ∙ concat-append cut.whole (cut.broken ∷ cut.rest)
 
 breaks_once : {T E told : Type 0} {bytes : Bytes} {old new : State} {e : E} → Spoke {T = T} {E = E} told bytes old new (Err e) → BreaksOff told old new (bytes ∷ [])
 breaks_once {bytes = bytes} {old = old} spoke = record {
   failed = out_failed_once spoke;
-  said = λ tells. let cut = spoke_front spoke tells in (take cut.0 bytes, drop cut.0 bytes, append-nil bytes ∙ sym (take-append-drop cut.0 bytes), cut.1);
-  calls = λ tells. ⊎_elim
-      (λ cut. (bytes ∷ [], [], refl, recorded_calls cut.recorded))
-      (λ unsaid. ([], bytes ∷ [], refl, ap (map (λ (e : Entry). e.event)) unsaid.unrecorded.trace ∙ sym (append-nil (calls_of old))))
+  cut = λ tells. ⊎_elim
+      (λ cut. (take cut.said.0 bytes, bytes ∷ [], record { whole = []; broken = bytes; rest = []; are = refl; went = inl (cut.said.0, refl, refl) }, cut.said.1, records_call cut.recorded))
+      (λ unsaid. ([], [], record { whole = []; broken = bytes; rest = []; are = refl; went = inr (refl, refl) }, unsaid.said ∙ sym (append-nil old.now.said), records_none unsaid.unrecorded))
       (spoke.err tells);
 }
 
 pub breaks_after : {told : Type 0} {a b c : State} {p q : List Bytes} → SaysAll told a b p → BreaksOff told b c q → BreaksOff told a c (p ++ q)
 breaks_after {a = a} {p = p} {q = q} first second = record {
   failed = out_failed_after first.answered second.failed;
-  said = λ tells. let cut = second.said tells in (
+  cut = λ tells. let cut = second.cut tells in (
     concat p ++ cut.0,
-    cut.1,
-    concat-append p q ∙ ap (λ x. concat p ++ x) cut.2 ∙ sym (append_assoc (concat p) cut.0 cut.1),
+    p ++ cut.1,
+    cut_after p cut.2,
     cut.3 ∙ ap (λ x. x ++ cut.0) (first.said tells) ∙ append_assoc a.now.said (concat p) cut.0,
-  );
-  calls = λ tells. let cut = second.calls tells in (
-    p ++ cut.0,
-    cut.1,
-    ap (λ x. p ++ x) cut.2 ∙ sym (append_assoc p cut.0 cut.1),
-    cut.3 ∙ ap (λ x. x ++ map Say cut.0) (first.calls tells) ∙ append_assoc (calls_of a) (map Say p) (map Say cut.0) ∙ ap (λ x. calls_of a ++ x) (sym (map-append Say p cut.0)),
+    records_as (records_then (first.calls tells) cut.4) (sym (map-append Say p cut.1)),
   );
 }
 
 pub breaks_more : {told : Type 0} {a b : State} {p : List Bytes} (more : List Bytes) → BreaksOff told a b p → BreaksOff told a b (p ++ more)
-breaks_more {p = p} more broken = record {
-  failed = broken.failed;
-  said = λ tells. let cut = broken.said tells in (cut.0, cut.1 ++ concat more, concat-append p more ∙ ap (λ x. x ++ concat more) cut.2 ∙ append_assoc cut.0 cut.1 (concat more), cut.3);
-  calls = λ tells. let cut = broken.calls tells in (cut.0, cut.1 ++ more, ap (λ x. x ++ more) cut.2 ∙ append_assoc cut.0 cut.1 more, cut.3);
-}
+breaks_more more broken = record { failed = broken.failed; cut = λ tells. let cut = broken.cut tells in (cut.0, cut.1, cut_more more cut.2, cut.3, cut.4) }
 
 -- a text that one call takes
 pub says_text : {told : Type 0} {old new : State} (text : Bytes) (result : Result (Unit {0}) Failed) → 0 < length text → length text ≤ most_said → Spoke told text old new result → Says told old new text result

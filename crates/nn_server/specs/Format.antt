@@ -8,6 +8,8 @@ use Rattle.nn_host.specs.Moments.{Moment, State, Left, moment}
 use Rattle.nn_host.specs.Runs.{Throughout, EachDir}
 use Rattle.nn_marks.specs.declared.version.Version.{Version}
 use Rattle.nn_state.specs.Typed.{FitsFresh}
+use Rattle.nn_pick.specs.declared.fault.OpenFault.{OpenFault}
+use Rattle.nn_pick.specs.declared.fault.OpenFault.TheVariants as fault
 use Rattle.nn_open.specs.Formatted.{IsFormatted, ReadsFormatted, OpensEmpty, EachChoiceOpensEmpty}
 use Rattle.nn_open.specs.Answers.{AllFresh, AllFormatted, IsRefused, EachAsBefore, first_unformattable}
 use Rattle.nn_server.specs.declared.status.Status.{Status}
@@ -23,6 +25,12 @@ format_status (Refused refusal) = status.Refused refusal
 format_status (HostFault i) = status.HostFault i
 format_status Memory = status.Memory
 format_status OutFault = status.OutFault
+
+-- how a run ends whose formatting came to this
+abbrev pub unformatted : OpenFault → FormatEnd
+unformatted (fault.Refused refusal) = Refused refusal
+unformatted (fault.Failed i) = HostFault i
+unformatted fault.Memory = Memory
 
 -- the VERSION of a new namespace with this cluster's id and this number: cTime 0, a block pool named after the number, and the
 -- layout of this program

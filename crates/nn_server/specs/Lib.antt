@@ -7,7 +7,6 @@ pub mod Reading
 pub mod Reader
 pub mod Scene
 pub mod Listed
-pub mod Ends
 pub mod Saying
 pub mod Answered
 pub mod Dry

@@ -87,10 +87,3 @@ pub record Refilled (told : Type 0) (some : Bool) (left_before left_after ahead 
   pub fewer : some ≡ true → room_after < room_before
   pub room : length ahead + room_after ≡ room_before
   pub empty : some ≡ false → ahead ≡ []
-
--- behind the most bytes that lines may have there is nothing, or one byte was taken that is too many
-abbrev pub IsPastRoom : Type 0 → Next → Bytes → Bytes → Bytes → Type 0
-IsPastRoom told Line line left_before left_after = ⊥
-IsPastRoom told Last line left_before left_after = (line ≢ []) × (told → left_before ≡ []) × (told → left_after ≡ [])
-IsPastRoom told End line left_before left_after = (line ≡ []) × (told → left_before ≡ []) × (told → left_after ≡ [])
-IsPastRoom told TooLong line left_before left_after = (byte : ℕ) × (told → left_before ≡ byte ∷ left_after)

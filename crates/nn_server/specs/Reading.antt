@@ -1,9 +1,9 @@
 -- How the bytes of a script become lines.
-use Rattle.std.specs.Prelude.{◌≡◌, ◌==◌, false, [], ◌∷◌, take}
+use Rattle.std.specs.Prelude.{◌≡◌, ◌==◌, ℕ, Bool, true, false, [], ◌∷◌, take}
 use Rattle.std.specs.List.{All}
 use Rattle.nn_base.specs.Paths.{Bytes}
 use Rattle.nn_server.specs.declared.reader.Next.{Next}
-use Rattle.nn_server.specs.declared.reader.Next.TheVariants.{Last, End}
+use Rattle.nn_server.specs.declared.reader.Next.TheVariants.{Last, End, TooLong}
 
 -- bytes without a newline
 abbrev pub IsUnended : Bytes → Type 0
@@ -17,3 +17,13 @@ front_of line = take 65537 line
 abbrev pub kept_of : Bytes → Next
 kept_of [] = End
 kept_of (byte ∷ bytes) = Last
+
+-- behind the most bytes that lines may have one byte was taken, which is too many, or there is nothing
+abbrev pub IsBehind : Type 0 → Bool → Bytes → Bytes → Type 0
+IsBehind told true left_before left_after = (byte : ℕ) × (told → left_before ≡ byte ∷ left_after)
+IsBehind told false left_before left_after = (told → left_before ≡ []) × (told → left_after ≡ [])
+
+-- where all the bytes that lines may have are read, by whether one more is there
+abbrev pub past_of : Bool → Bytes → Next
+past_of true line = TooLong
+past_of false line = kept_of line

@@ -1,12 +1,12 @@
 -- How texts go out: in which calls of the output, and what is left of them where it fails.
-use Rattle.std.specs.Prelude.{◌≡◌, ℕ, zero, suc, ◌+◌, ◌/◌, List, [], ◌∷◌, ◌++◌, length, take, drop, map, Result, Ok, Err}
+use Rattle.std.specs.Prelude.{◌≡◌, ◌⊎◌, ℕ, zero, suc, ◌+◌, ◌-◌, ◌/◌, List, [], ◌∷◌, ◌++◌, length, take, drop, map, Result, Ok, Err}
 use Rattle.std.specs.List.{All, concat}
 use Rattle.nn_base.specs.Paths.{Bytes}
-use Rattle.nn_host.specs.Moments.{State, Entry, Event, Say}
-use Rattle.nn_host.specs.Calls.{most_said}
-use Rattle.nn_host.specs.Runs.{AllAnswered}
+use Rattle.nn_host.specs.Moments.{State, Say, faults_at}
+use Rattle.nn_host.specs.Calls.{most_said, next_count}
+use Rattle.nn_host.specs.Runs.{AllAnswered, Untouched, SilentAfter}
 use Rattle.nn_host.specs.declared.host.Failed.{Failed}
-use Rattle.nn_server.specs.Ends.{OutFailed}
+use Rattle.nn_server.specs.Came.{Records}
 
 -- the first k pieces of a text
 abbrev pub first_pieces : ℕ → Bytes → List Bytes
@@ -15,23 +15,35 @@ first_pieces (suc k) text = take most_said text ∷ first_pieces k (drop most_sa
 
 -- a text in pieces: each has as many bytes as one call takes, but for the last, which has those that are left; no text has no piece
 unfoldable pub pieces_of : Bytes → List Bytes
-pieces_of text = first_pieces ((length text + 65535) / 65536) text
-
--- which calls a host has recorded
-abbrev pub calls_of : State → List Event
-calls_of s = map (λ (e : Entry). e.event) s.trace
+pieces_of text = first_pieces ((length text + (most_said - 1)) / most_said) text
 
 -- from old to new these pieces were said, each in one call, and no call failed
 pub record SaysAll (told : Type 0) (old new : State) (pieces : List Bytes) : Type 0 where
   pub answered : AllAnswered told old new
   pub said : told → new.now.said ≡ old.now.said ++ concat pieces
-  pub calls : told → calls_of new ≡ calls_of old ++ map Say pieces
+  pub calls : told → Records (map Say pieces) old.trace new.trace
 
--- from old to new the output failed over these pieces: the calls are those of some first ones, and a front of these was said
+-- the output failed over one of these pieces: those before it went out whole, and of it a front, where it was asked to take it;
+-- `text` is what went out, `asked` the pieces that it was asked to take
+pub record CutOff (pieces : List Bytes) (text : Bytes) (asked : List Bytes) : Type 0 where
+  pub whole : List Bytes
+  pub broken : Bytes
+  pub rest : List Bytes
+  pub are : pieces ≡ whole ++ broken ∷ rest
+  pub went : ((n : ℕ) × (text ≡ concat whole ++ take n broken) × (asked ≡ whole ++ broken ∷ [])) ⊎ ((text ≡ concat whole) × (asked ≡ whole))
+
+-- the output failed, nothing was said after that, and no directory was touched
+pub record OutFailed (told : Type 0) (old new : State) : Type 0 where
+  pub untouched : Untouched told old new
+  pub silent : SilentAfter told old new
+  pub faults : (j : ℕ) → faults_at new j ≡ faults_at old j
+  pub out_faults : new.now.out_faults ≡ next_count old.now.out_faults
+  pub reads : told → (j : ℕ) → new.reads j ≡ old.reads j
+
+-- from old to new the output failed over one of these pieces
 pub record BreaksOff (told : Type 0) (old new : State) (pieces : List Bytes) : Type 0 where
   pub failed : OutFailed told old new
-  pub said : told → (front : Bytes) × (later : Bytes) × (concat pieces ≡ front ++ later) × (new.now.said ≡ old.now.said ++ front)
-  pub calls : told → (done : List Bytes) × (later : List Bytes) × (pieces ≡ done ++ later) × (calls_of new ≡ calls_of old ++ map Say done)
+  pub cut : told → (text : Bytes) × (asked : List Bytes) × CutOff pieces text asked × (new.now.said ≡ old.now.said ++ text) × Records (map Say asked) old.trace new.trace
 
 -- a text was said, or the output failed over it
 abbrev pub Says : Type 0 → State → State → Bytes → Result (Unit {0}) Failed → Type 0

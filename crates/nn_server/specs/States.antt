@@ -1,8 +1,8 @@
 -- What a run of `state` did: it names each directory's storage state, and the first that can't be worked on refuses.
-use Rattle.std.specs.Prelude.{◌≡◌, ◌≢◌, ◌<◌, ℕ, zero, suc, List, [], ◌∷◌, ◌++◌, All, Option, Some, None, Result}
+use Rattle.std.specs.Prelude.{◌≡◌, ◌≢◌, ◌⊎◌, ◌<◌, ℕ, zero, suc, List, [], ◌∷◌, ◌++◌, All, Option, Some, None, Result}
 use Rattle.nn_base.specs.Paths.{Bytes}
 use Rattle.nn_host.specs.Disk.{Reads, Look}
-use Rattle.nn_host.specs.Moments.{Entry, State, On, Say}
+use Rattle.nn_host.specs.Moments.{Entry, Event, State, On, Say}
 use Rattle.nn_host.specs.Runs.{Untouched}
 use Rattle.nn_state.specs.declared.state.StorageState.{StorageState}
 use Rattle.nn_state.specs.declared.state.Why.{Why}
@@ -14,7 +14,7 @@ use Rattle.nn_server.specs.declared.status.Status.TheVariants as status
 use Rattle.nn_server.specs.declared.state_run.StateEnd.{StateEnd}
 use Rattle.nn_server.specs.declared.state_run.StateEnd.TheVariants.{Done, Refused, HostFault, Memory, OutFault}
 use Rattle.nn_server.specs.Lines.{state_line}
-use Rattle.nn_server.specs.Came.{Counts}
+use Rattle.nn_server.specs.Came.{Records, Counts}
 
 -- what the table says of directory i
 abbrev pub found : (ℕ → Reads) → ℕ → Result StorageState Why
@@ -46,12 +46,25 @@ StateSays dirs n named lines Memory = (named < n) × (lines ≡ state_lines dirs
 StateSays dirs n named lines OutFault =
     (named < n) × ((front : Bytes) × (later : Bytes) × (state_line named (found dirs named) ≡ front ++ later) × (lines ≡ state_lines dirs named ++ front))
 
+-- each of these calls looks at directory n
+abbrev pub LooksAt : ℕ → List Event → Type 0
+LooksAt n calls = All (λ call. call ≡ On n Look) calls
+
 -- the calls by which the first n directories are named: each is looked at, and then its line is said at once
-abbrev pub NameInTurn : (ℕ → Reads) → ℕ → List Entry → Type 0
+abbrev pub NameInTurn : (ℕ → Reads) → ℕ → List Event → Type 0
 NameInTurn dirs zero calls = calls ≡ []
 NameInTurn dirs (suc n) calls =
-    (before : List Entry) × (looks : List Entry) × (say : Entry) × NameInTurn dirs n before
-    × All (λ look. look.event ≡ On n Look) looks × (say.event ≡ Say (state_line n (found dirs n))) × (calls ≡ before ++ (looks ++ say ∷ []))
+    (before : List Event) × (looks : List Event) × NameInTurn dirs n before × LooksAt n looks × (looks ≢ []) × (calls ≡ before ++ (looks ++ Say (state_line n (found dirs n)) ∷ []))
+
+-- the calls behind those: none where all are named; looks at the next directory where one of them failed, or there was no memory
+-- for its line; these and that line, where the output failed over it or was never asked to take it
+abbrev pub LeavesOff : (ℕ → Reads) → ℕ → List Event → StateEnd → Type 0
+LeavesOff dirs named calls Done = calls ≡ []
+LeavesOff dirs named calls (Refused refusal) = calls ≡ []
+LeavesOff dirs named calls (HostFault i) = LooksAt named calls
+LeavesOff dirs named calls Memory = LooksAt named calls
+LeavesOff dirs named calls OutFault =
+    (looks : List Event) × (asked : List Event) × LooksAt named looks × ((asked ≡ []) ⊎ (asked ≡ Say (state_line named (found dirs named)) ∷ [])) × (calls ≡ looks ++ asked)
 
 -- the directory that failed
 abbrev pub state_failed : StateEnd → Option ℕ
@@ -59,10 +72,10 @@ state_failed (HostFault i) = Some i.0
 state_failed end = None
 
 -- no directory was changed; each but the one that failed reads as before
-pub record StateRan (told : Type 0) (old new : State) (lines : Bytes) (end : StateEnd) : Type 0 where
+pub record StateRan (told : Type 0) (old new : State) (lines : Bytes) (trace : List Entry) (end : StateEnd) : Type 0 where
   pub named : ℕ
   pub said : told → StateSays old.reads old.count named lines end
-  pub calls : told → (calls : List Entry) × (later : List Entry) × NameInTurn old.reads named calls × (new.trace ≡ old.trace ++ (calls ++ later))
+  pub calls : told → (naming : List Event) × (later : List Event) × NameInTurn old.reads named naming × LeavesOff old.reads named later end × Records (naming ++ later) old.trace trace
   pub kept : Untouched told old new
   pub reads : told → (j : ℕ) → state_failed end ≢ Some j → new.reads j ≡ old.reads j
   pub counted : Counts (state_failed end) old new

@@ -1,8 +1,11 @@
 // Running a script on a namespace in memory alone.
 ghost use Rattle.std.specs.Prelude.{◌≡◌, []};
+ghost use Rattle.nn_base.specs.Limits.{most_script};
 ghost use Rattle.nn_script.specs.Answers.{first_state};
 ghost use Rattle.nn_server.specs.Scene.{scene};
 ghost use Rattle.nn_server.specs.Reader.{ahead, budget};
+ghost use Rattle.nn_server.specs.Came.{CameTo};
+ghost use Rattle.nn_server.specs.Codes.{dry_status};
 ghost use Rattle.nn_server.specs.Dry.{DryRan, dry_end};
 
 use crate::reader::{LineReader, Next};
@@ -35,8 +38,9 @@ pub enum DryEnd {
 /// whole answers. The last line of a status is left to the caller.
 #[tactic(auto, using(crate::proofs::DryLemmas::ending_unbegun))]
 pub fn dry<H: Host, S: Source>(alloc: Global, host: &mut H, source: &mut S) -> DryEnd
-    ensures { DryRan H.told S.told (S.left source.old) (S.left source.new) (S.faults source.old)
-        (S.faults source.new) (H.state host.old) (H.state host.new) result }
+    ensures { CameTo H.told (H.state host.old) (H.state host.new) dry_status
+        (DryRan H.told S.told (S.left source.old) (S.left source.new) (S.faults source.old) (S.faults source.new)
+        (H.state host.old) (H.state host.new)) result }
 {
     let mut reader = match LineReader::new(alloc) {
         Ok(reader) => reader,
@@ -58,10 +62,11 @@ fn answer_all<H: Host, S: Source, T: Tree>(
     session: &mut Session<T>,
 ) -> DryEnd
     requires ahead { ahead reader.old ≡ [] }
-    requires budget { budget reader.old ≡ 67108864 }
+    requires budget { budget reader.old ≡ most_script }
     requires first { scene (T.meaning session.old.tree) session.old.time ≡ first_state }
-    ensures { DryRan H.told S.told (S.left source.old) (S.left source.new) (S.faults source.old)
-        (S.faults source.new) (H.state host.old) (H.state host.new) result }
+    ensures { CameTo H.told (H.state host.old) (H.state host.new) dry_status
+        (DryRan H.told S.told (S.left source.old) (S.left source.new) (S.faults source.old) (S.faults source.new)
+        (H.state host.old) (H.state host.new)) result }
 {
     'lines: loop {
         match reader.next(source) {

@@ -3,7 +3,7 @@ ghost use Rattle.std.specs.Prelude.{◌≡◌, ◌≤◌, IsTrue, IfOk};
 ghost use Rattle.nn_base.specs.Words.{is_word};
 ghost use Rattle.nn_server.specs.Lines.{formatted_line as line_of};
 ghost use Rattle.nn_server.specs.Came.{CameTo};
-ghost use Rattle.nn_server.specs.Format.{IsNewVersion, FormatRan, format_status};
+ghost use Rattle.nn_server.specs.Format.{IsNewVersion, FormatRan, format_status, unformatted as end_of};
 
 use crate::Status;
 use nn_base::limits::LAYOUT;
@@ -51,7 +51,7 @@ pub fn format<H: Host>(alloc: Global, host: &mut H, cluster: &Word, namespace: u
     requires some { 1 ≤ namespace }
     requires fits { namespace ≤ 2147483647 }
     ensures { CameTo H.told (H.state host.old) (H.state host.new) format_status
-        (FormatRan H.told cluster.now namespace (H.state host.old) (H.state host.new)) result }
+        (λ lines trace. FormatRan H.told cluster.now namespace (H.state host.old) (H.state host.new) lines) result }
 {
     let version = match new_version(alloc, cluster, namespace) {
         Ok(version) => version,
@@ -62,9 +62,18 @@ pub fn format<H: Host>(alloc: Global, host: &mut H, cluster: &Word, namespace: u
             Ok(()) => FormatEnd::Done,
             Err(Failed) => FormatEnd::OutFault,
         },
-        Err(OpenFault::Refused(refusal)) => FormatEnd::Refused(refusal),
-        Err(OpenFault::Failed(i)) => FormatEnd::HostFault(i),
-        Err(OpenFault::Memory) => FormatEnd::Memory,
+        Err(fault) => unformatted(fault),
+    }
+}
+
+// How a run ends whose directories weren't formatted.
+fn unformatted(fault: OpenFault) -> FormatEnd
+    ensures { result ≡ end_of fault }
+{
+    match fault {
+        OpenFault::Refused(refusal) => FormatEnd::Refused(refusal),
+        OpenFault::Failed(i) => FormatEnd::HostFault(i),
+        OpenFault::Memory => FormatEnd::Memory,
     }
 }
 

@@ -1,11 +1,12 @@
 // In which calls answers go out.
-ghost use Rattle.std.specs.Prelude.{◌≡◌, ◌≢◌, ◌<◌, ◌≤◌, [], ◌∷◌, length, Ok, Some};
+ghost use Rattle.std.specs.Prelude.{◌≡◌, ◌≢◌, ◌<◌, ◌≤◌, List, [], ◌∷◌, ◌++◌, length, Ok, Some};
 ghost use Rattle.std.specs.List.{All, concat};
 ghost use Rattle.nn_base.specs.Paths.{Bytes, Names};
 ghost use Rattle.nn_script.specs.declared.command.ScriptCommand.TheVariants as command;
 ghost use Rattle.nn_script.specs.Reading.{reading_of};
-ghost use Rattle.nn_script.specs.Answers.{State, answer_of};
-ghost use Rattle.nn_server.specs.Saying.{pieces_of};
+ghost use Rattle.nn_script.specs.Answers.{State, answer_of, answers};
+ghost use Rattle.nn_server.specs.Saying.{CutOff, pieces_of};
+ghost use Rattle.nn_server.specs.Dry.{pieces_to};
 
 /// An answer goes out in the pieces of its text, a call each, as the record of calls says: one that
 /// is no listing in a single call, and a longer listing in calls of at most 65,536 bytes each.
@@ -17,4 +18,7 @@ pub fn answers_go_out_in_pieces()
     ensures none { pieces_of [] ≡ [] }
     ensures each { (text : Bytes) → All (λ piece. length piece ≤ 65536) (pieces_of text) }
     ensures joined { (text : Bytes) → concat (pieces_of text) ≡ text }
+    ensures answers { (s : State) (lines : List Bytes) → concat (pieces_to s lines) ≡ answers s lines }
+    ensures front { (pieces : List Bytes) (text : Bytes) (asked : List Bytes) → CutOff pieces text asked →
+        (later : Bytes) × (concat pieces ≡ text ++ later) }
 {}

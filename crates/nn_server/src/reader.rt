@@ -3,16 +3,14 @@ ghost use Rattle.std.specs.Prelude.{◌≡◌, ◌<◌, ◌≤◌, ◌+◌, ◌+
 ghost use Rattle.std.specs.Prelude.{IfOk, OnOk, OnErr, vec_len, vec_capacity};
 ghost use Rattle.std.specs.List.{position};
 ghost use Rattle.std.specs.Str.Lines.{strip_carriage_return};
+ghost use Rattle.nn_base.specs.Limits.{most_piece, most_script};
 ghost use Rattle.nn_host.specs.Calls.{next_count};
-ghost use Rattle.nn_server.specs.Reading.{front_of, kept_of};
+ghost use Rattle.nn_server.specs.Reading.{front_of, kept_of, past_of, IsBehind};
 
 use nn_base::NoMemory;
-use nn_base::limits::{MOST_LINE, MOST_SCRIPT};
+use nn_base::limits::{MOST_LINE, MOST_PIECE, MOST_SCRIPT};
 use nn_host::{Failed, Source};
 use std::alloc::Global;
-
-/// The most bytes that are taken at once.
-const CHUNK: usize = 65_536;
 
 /// Of a line so many bytes are kept. One that is longer is too long even without a carriage return.
 const KEPT: usize = MOST_LINE + 2;
@@ -42,20 +40,20 @@ pub struct LineReader {
     line: Vec<u8>,
     ghost order: { at ≤ end },
     ghost within: { end ≤ vec_len chunk },
-    ghost size: { vec_len chunk ≡ 65536 },
+    ghost size: { vec_len chunk ≡ most_piece },
     ghost front: { vec_len line ≤ 65537 },
     ghost space: { 65537 ≤ vec_capacity line },
 }
 
 impl LineReader {
-    ghost use Rattle.nn_server.specs.Reader.{ahead, budget, IsNext, PartRead, HasRead, Refilled, Stopped, IsPastRoom};
+    ghost use Rattle.nn_server.specs.Reader.{ahead, budget, IsNext, PartRead, HasRead, Refilled, Stopped};
 
     /// A reader that has taken nothing. All the memory that it needs is taken here.
     pub fn new(alloc: Global) -> Result<LineReader, NoMemory>
         ensures ahead { IfOk result (λ reader. ahead reader ≡ []) }
-        ensures budget { IfOk result (λ reader. budget reader ≡ 67108864) }
+        ensures budget { IfOk result (λ reader. budget reader ≡ most_script) }
     {
-        let chunk = vec![in alloc; 0; CHUNK]?;
+        let chunk = vec![in alloc; 0; MOST_PIECE]?;
         let line = Vec::with_capacity(alloc, KEPT)?;
         Ok(LineReader {
             chunk,
@@ -93,8 +91,8 @@ impl LineReader {
                 return Ok(Next::Line);
             }
             if self.room == 0 {
-                let next = self.past_room(source)?;
-                return Ok(next);
+                let more = one_more(source)?;
+                return Ok(self.past_room(more));
             }
             let some = self.refill(source)?;
             if !some {
@@ -146,29 +144,18 @@ impl LineReader {
         ensures counted_err { OnErr result
             (S.faults source.new ≡ next_count (S.faults source.old)) }
     {
-        let count = take_front(source, &mut self.chunk, self.room.min(CHUNK))?;
+        let count = take_front(source, &mut self.chunk, self.room.min(MOST_PIECE))?;
         self.at = 0;
         self.end = count;
         self.room -= count;
         Ok(count > 0)
     }
 
-    // All the bytes that a script may have are read: whether there is one more.
-    fn past_room<S: Source>(&self, source: &mut S) -> Result<Next, Failed>
-        ensures ok { IfOk result (λ next. IsPastRoom S.told next self.now.line.items
-            (S.left source.old) (S.left source.new)) }
-        ensures err { S.told → OnErr result (S.left source.new ≡ S.left source.old) }
-        ensures counted_ok { OnOk result (S.faults source.new ≡ S.faults source.old) }
-        ensures counted_err { OnErr result
-            (S.faults source.new ≡ next_count (S.faults source.old)) }
+    // What is read where all the bytes that a script may have are read, by whether there is one more.
+    fn past_room(&self, more: bool) -> Next
+        ensures { result ≡ past_of more self.now.line.items }
     {
-        let mut byte = [0];
-        let count = source.take(&mut byte)?;
-        if count == 0 {
-            Ok(self.last())
-        } else {
-            Ok(Next::TooLong)
-        }
+        if more { Next::TooLong } else { self.last() }
     }
 
     // What stands behind the last newline, if anything does.
@@ -181,6 +168,18 @@ impl LineReader {
             Next::Last
         }
     }
+}
+
+// Takes one byte, where there is one.
+fn one_more<S: Source>(source: &mut S) -> Result<bool, Failed>
+    ensures ok { IfOk result (λ more. IsBehind S.told more (S.left source.old) (S.left source.new)) }
+    ensures err { S.told → OnErr result (S.left source.new ≡ S.left source.old) }
+    ensures counted_ok { OnOk result (S.faults source.new ≡ S.faults source.old) }
+    ensures counted_err { OnErr result (S.faults source.new ≡ next_count (S.faults source.old)) }
+{
+    let mut byte = [0];
+    let count = source.take(&mut byte)?;
+    if count == 0 { Ok(false) } else { Ok(true) }
 }
 
 // Takes at most so many bytes to the front of the chunk.

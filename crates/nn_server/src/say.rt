@@ -1,5 +1,6 @@
 // What goes out.
 ghost use Rattle.std.specs.Prelude.{◌≡◌, ◌<◌, ◌≤◌, ◌+◌, ◌∷◌, ◌++◌, [], length, vec_len, vec_capacity};
+ghost use Rattle.nn_host.specs.Calls.{most_said};
 ghost use Rattle.nn_tree.specs.Limits.{IsNode};
 ghost use Rattle.nn_script.specs.Spelling.{IsSaid, answer_text, escaped};
 ghost use Rattle.nn_script.specs.Listing.{node_words, block_line as line_of_block};
@@ -18,8 +19,8 @@ pub(crate) struct Speech {
     line: Vec<u8>,
     waiting: Vec<u8>,
     ghost line_room: { 768 ≤ vec_capacity line },
-    ghost waiting_room: { 65536 ≤ vec_capacity waiting },
-    ghost few: { vec_len waiting < 65536 },
+    ghost waiting_room: { most_said ≤ vec_capacity waiting },
+    ghost few: { vec_len waiting < most_said },
 }
 
 impl Speech {
@@ -114,12 +115,12 @@ impl Speech {
 // Puts bytes behind those that wait, and says these once there are as many as one call takes.
 fn put<H: Host>(host: &mut H, bytes: &[u8], waiting: &mut Vec<u8>) -> Result<(), Failed>
     requires short { length bytes.now ≤ 768 }
-    requires few { vec_len waiting.old < 65536 }
-    requires room { 65536 ≤ vec_capacity waiting.old }
+    requires few { vec_len waiting.old < most_said }
+    requires room { most_said ≤ vec_capacity waiting.old }
     ensures puts { Puts H.told (H.state host.old) (H.state host.new) waiting.old.items bytes.now
         waiting.new.items result }
-    ensures few { vec_len waiting.new < 65536 }
-    ensures room { 65536 ≤ vec_capacity waiting.new }
+    ensures few { vec_len waiting.new < most_said }
+    ensures room { most_said ≤ vec_capacity waiting.new }
 {
     let room = MOST_SAID - waiting.len();
     if bytes.len() < room {

@@ -1,9 +1,12 @@
 // The command `state`: each directory's storage state, and then the first refusal.
-ghost use Rattle.std.specs.Prelude.{◌≡◌, IfOk};
+ghost use Rattle.std.specs.Prelude.{◌≡◌, ◌<◌, ◌≤◌, length, is_ok, IfOk, OnOk};
 ghost use Rattle.std.specs.String.{string_bytes};
+ghost use Rattle.nn_host.specs.Moments.{moment};
+ghost use Rattle.nn_host.specs.Calls.{most_said, Spoke};
+ghost use Rattle.nn_host.specs.Runs.{Looked};
 ghost use Rattle.nn_server.specs.Lines.{state_line};
 ghost use Rattle.nn_server.specs.Came.{CameTo};
-ghost use Rattle.nn_server.specs.States.{StateRan, state_status};
+ghost use Rattle.nn_server.specs.States.{StateRan, state_status, found};
 
 use crate::Status;
 use nn_base::{DirNo, NoMemory};
@@ -51,16 +54,15 @@ pub fn state<H: Host>(alloc: Global, host: &mut H) -> StateEnd
 {
     let mut first = None;
     for i in 0..host.count() {
-        let seven = match look(host, DirNo(i)) {
-            Ok(seven) => seven,
+        let found = match state_of(host, DirNo(i)) {
+            Ok(found) => found,
             Err(Failed) => return StateEnd::HostFault(DirNo(i)),
         };
-        let found = table(seven);
         let line = match line_of(alloc, DirNo(i), found) {
             Ok(line) => line,
             Err(NoMemory) => return StateEnd::Memory,
         };
-        match host.say(line.as_bytes()) {
+        match say_line(host, line.as_bytes()) {
             Ok(()) => first = first_of(first, unusable(DirNo(i), found)),
             Err(Failed) => return StateEnd::OutFault,
         }
@@ -69,6 +71,27 @@ pub fn state<H: Host>(alloc: Global, host: &mut H) -> StateEnd
         Some(refusal) => StateEnd::Refused(refusal),
         None => StateEnd::Done,
     }
+}
+
+// What the table says of a directory.
+fn state_of<H: Host>(host: &mut H, i: DirNo) -> Result<Result<StorageState, Why>, Failed>
+    requires { i.0 < (H.state host.old).count }
+    ensures ok { H.told → IfOk result (λ it. it ≡ found (H.state host.old).reads i.0) }
+    ensures kept { Looked H.told i.0 (H.state host.old) (H.state host.new) (is_ok result) }
+    ensures asked { H.told → OnOk result (moment (H.state host.old) < moment (H.state host.new)) }
+{
+    match look(host, i) {
+        Ok(seven) => Ok(table(seven)),
+        Err(Failed) => Err(Failed),
+    }
+}
+
+// A line goes out in one call.
+fn say_line<H: Host>(host: &mut H, line: &[u8]) -> Result<(), Failed>
+    requires { length line.now ≤ most_said }
+    ensures { Spoke H.told line.now (H.state host.old) (H.state host.new) result }
+{
+    host.say(line)
 }
 
 fn line_of(alloc: Global, i: DirNo, found: Result<StorageState, Why>) -> Result<String, NoMemory>

@@ -1,17 +1,17 @@
 -- The last line of a run, behind what its command said.
-use Rattle.std.proofs.Common.{◌≡◌, ◌⊎◌, inl, inr, ⊎_elim, ℕ, Bool, true, false, List, [], ◌++◌, take, drop, if◌then◌else◌, Result, Ok, Err, refl, sym, ◌∙◌, ap, subst, append_assoc}
+use Rattle.std.proofs.Common.{◌≡◌, ◌⊎◌, inl, inr, ⊎_elim, ℕ, Bool, true, false, List, [], ◌∷◌, ◌++◌, take, drop, if◌then◌else◌, Result, Ok, Err, refl, sym, ◌∙◌, ap, subst, append_assoc}
 use Rattle.std.proofs.lemmas.List.{append-nil, take-append-drop}
 use Rattle.nn_base.specs.Paths.{Bytes}
 use Rattle.nn_host.specs.Disk.{Reads}
-use Rattle.nn_host.specs.Moments.{Dir, Entry, State}
+use Rattle.nn_host.specs.Moments.{Dir, Event, Say, State}
 use Rattle.nn_host.specs.Calls.{Spoke, next_count}
 use Rattle.nn_host.proofs.RunsLemmas.{out_whole_refl, out_whole_trans, out_spoke, silent_after, silent_spoke, spoke_front, untouched_refl, untouched_spoke}
 use Rattle.nn_server.specs.declared.status.Status.{Status}
 use Rattle.nn_server.specs.declared.status.Status.TheVariants as outcome
 use Rattle.nn_server.specs.Came.{is_out_fault, Speaks, TouchesNoDir}
-use Rattle.nn_server.proofs.CameLemmas.{spoke_on}
+use Rattle.nn_server.proofs.CameLemmas.{records_nothing, records_as, spoke_records, cut_records}
 use Rattle.nn_top.specs.Lines.{last_line}
-use Rattle.nn_top.specs.Closes.{is_made, IsLast, ClosesWhole, ClosesCut, Closes, Closing}
+use Rattle.nn_top.specs.Closes.{is_made, IsLast, last_call, ClosesWhole, ClosesCut, Closes, Closing}
 
 -- ---- the ways to close
 
@@ -26,29 +26,50 @@ touched_spoke spoke = record {
 }
 
 -- done work has no last line
-pub closes_done : {told : Type 0} {a : State} → Closing told a a outcome.Ok outcome.Ok
+closes_done : {told : Type 0} {a : State} → Closing told a a outcome.Ok outcome.Ok
 closes_done {a = a} = record {
   dirs = touched_refl;
-  calls = λ tells. ([], sym (append-nil a.trace));
-  ends = inr (refl, inl (record { is_last = inl refl; unfailed = refl; said = λ tells. sym (append-nil a.now.said); counted = refl; whole = out_whole_refl }));
+  ends = inr (refl, inl (record { is_last = inl refl; unfailed = refl; said = λ tells. sym (append-nil a.now.said); calls = λ tells. records_nothing; counted = refl; whole = out_whole_refl }));
 }
 
 -- nor has an output that failed
-pub closes_silent : {told : Type 0} {a : State} → Closing told a a outcome.OutFault outcome.OutFault
-closes_silent {a = a} = record { dirs = touched_refl; calls = λ tells. ([], sym (append-nil a.trace)); ends = inl (refl, refl, refl) }
+closes_silent : {told : Type 0} {a : State} → Closing told a a outcome.OutFault outcome.OutFault
+closes_silent = record { dirs = touched_refl; ends = inl (refl, refl, refl) }
+
+-- no other is without one
+pub closes_unsaid : (told : Type 0) (a : State) (status : Status) → last_call status ≡ [] → Closing told a a status status
+closes_unsaid told a outcome.Ok none = closes_done
+closes_unsaid told a outcome.Usage none = cc none
+closes_unsaid told a (outcome.Refused refusal) none = cc none
+closes_unsaid told a (outcome.HostFault i) none = cc none
+closes_unsaid told a outcome.SourceFault none = cc none
+closes_unsaid told a outcome.ScriptTooLong none = cc none
+closes_unsaid told a outcome.Memory none = cc none
+closes_unsaid told a outcome.OutFault none = closes_silent
+
+-- where there is one, the output didn't fail before it
+pub is_unfailed : (status : Status) → last_call status ≡ Say (last_line status) ∷ [] → is_out_fault status ≡ false
+is_unfailed outcome.Ok call = refl
+is_unfailed outcome.Usage call = refl
+is_unfailed (outcome.Refused refusal) call = refl
+is_unfailed (outcome.HostFault i) call = refl
+is_unfailed outcome.SourceFault call = refl
+is_unfailed outcome.ScriptTooLong call = refl
+is_unfailed outcome.Memory call = refl
+is_unfailed outcome.OutFault call = cc call
 
 -- a last line was said
-pub closes_said : {T E told : Type 0} {line : Bytes} {a b : State} {v : T} (status last : Status) → IsLast status last → is_out_fault status ≡ false → is_out_fault last ≡ false → line ≡ last_line last
+pub closes_said : {T E told : Type 0} {line : Bytes} {a b : State} {v : T} (status last : Status) → IsLast status last → is_out_fault status ≡ false → last_call last ≡ Say (last_line last) ∷ [] → line ≡ last_line last
     → Spoke {T = T} {E = E} told line a b (Ok v) → Closing told a b status last
-closes_said {a = a} status last is_last unfailed' unfailed is spoke = record {
+closes_said {a = a} status last is_last unfailed call is spoke = record {
   dirs = touched_spoke spoke;
-  calls = spoke_on _ spoke;
   ends = inr (
-    unfailed',
+    unfailed,
     inl (record {
       is_last = is_last;
-      unfailed = unfailed;
+      unfailed = is_unfailed last call;
       said = λ tells. (spoke.ok tells).said ∙ ap (λ (text : Bytes). a.now.said ++ text) is;
+      calls = λ tells. records_as (spoke_records spoke tells) (ap (λ (text : Bytes). Say text ∷ []) is ∙ sym call);
       counted = spoke.counted_ok;
       whole = out_spoke spoke;
     }),
@@ -56,11 +77,10 @@ closes_said {a = a} status last is_last unfailed' unfailed is spoke = record {
 }
 
 -- the output failed over it
-pub closes_cut : {T E told : Type 0} {line : Bytes} {a b : State} {e : E} (status last : Status) → IsLast status last → is_out_fault status ≡ false → line ≡ last_line last
+pub closes_cut : {T E told : Type 0} {line : Bytes} {a b : State} {e : E} (status last : Status) → IsLast status last → is_out_fault status ≡ false → last_call last ≡ Say (last_line last) ∷ [] → line ≡ last_line last
     → Spoke {T = T} {E = E} told line a b (Err e) → Closing told a b status outcome.OutFault
-closes_cut {line = line} status last is_last unfailed is spoke = record {
+closes_cut {line = line} status last is_last unfailed call is spoke = record {
   dirs = touched_spoke spoke;
-  calls = spoke_on _ spoke;
   ends = inr (
     unfailed,
     inr (record {
@@ -68,6 +88,9 @@ closes_cut {line = line} status last is_last unfailed is spoke = record {
       is_last = is_last;
       failed = refl;
       said = λ tells. let front = spoke_front spoke tells in (take front.0 line, drop front.0 line, sym is ∙ sym (take-append-drop front.0 line), front.1);
+      calls = λ tells.
+          let asked = cut_records spoke tells in
+          (asked.0, subst (λ (calls : List Event). (asked.0 ≡ []) ⊎ (asked.0 ≡ calls)) (ap (λ (text : Bytes). Say text ∷ []) is ∙ sym call) asked.1, asked.2);
       counted = spoke.counted_err;
       silent = silent_spoke spoke;
     }),
@@ -76,12 +99,13 @@ closes_cut {line = line} status last is_last unfailed is spoke = record {
 
 -- ---- behind what a command said
 
-after_silence : {told : Type 0} {a b : State} {lines : Bytes} → Speaks told a b lines outcome.OutFault → Closes told a b lines outcome.OutFault outcome.OutFault
-after_silence {lines = lines} speaks = inr (record {
+after_silence : {told : Type 0} {a b : State} {lines : Bytes} → Speaks told a b lines outcome.OutFault → Closes told b.trace a b lines outcome.OutFault outcome.OutFault
+after_silence {a = a} {lines = lines} speaks = inr (record {
   last = outcome.OutFault;
   is_last = inl refl;
   failed = refl;
-  said = λ tells. (lines, [], refl, speaks.said tells);
+  said = λ tells. ([], [], refl, speaks.said tells ∙ ap (λ (text : Bytes). a.now.said ++ text) (sym (append-nil lines)));
+  calls = λ tells. ([], inl refl, records_nothing);
   counted = speaks.counted;
   silent = speaks.silent;
 })
@@ -89,11 +113,13 @@ after_silence {lines = lines} speaks = inr (record {
 counted_whole : {told : Type 0} {a b : State} {lines : Bytes} (status : Status) → is_out_fault status ≡ false → Speaks told a b lines status → b.now.out_faults ≡ a.now.out_faults
 counted_whole {a = a} status unfailed speaks = speaks.counted ∙ ap (λ (failed : Bool). if failed then next_count a.now.out_faults else a.now.out_faults) unfailed
 
-after_lines : {told : Type 0} {a b c : State} {lines : Bytes} (status result : Status) → is_out_fault status ≡ false → Speaks told a b lines status → Closes told b c [] status result → Closes told a c lines status result
+after_lines : {told : Type 0} {a b c : State} {lines : Bytes} (status result : Status) → is_out_fault status ≡ false → Speaks told a b lines status → Closes told b.trace b c [] status result
+    → Closes told b.trace a c lines status result
 after_lines {a = a} {lines = lines} status result unfailed speaks (inl all) = inl (record {
   is_last = all.is_last;
   unfailed = all.unfailed;
   said = λ tells. all.said tells ∙ ap (λ (text : Bytes). text ++ last_line result) (speaks.said tells) ∙ append_assoc a.now.said lines (last_line result);
+  calls = all.calls;
   counted = all.counted ∙ counted_whole status unfailed speaks;
   whole = out_whole_trans (speaks.whole unfailed) all.whole;
 })
@@ -102,23 +128,20 @@ after_lines {a = a} {lines = lines} status result unfailed speaks (inr front) = 
   is_last = front.is_last;
   failed = front.failed;
   said = λ tells.
-      let cut = front.said tells in (
-        lines ++ cut.0,
-        cut.1,
-        ap (λ (text : Bytes). lines ++ text) cut.2 ∙ sym (append_assoc lines cut.0 cut.1),
-        cut.3 ∙ ap (λ (text : Bytes). text ++ cut.0) (speaks.said tells) ∙ append_assoc a.now.said lines cut.0,
-      );
+      let cut = front.said tells in
+      (cut.0, cut.1, cut.2, cut.3 ∙ ap (λ (text : Bytes). text ++ cut.0) (speaks.said tells) ∙ append_assoc a.now.said lines cut.0);
+  calls = front.calls;
   counted = front.counted ∙ ap next_count (counted_whole status unfailed speaks);
   silent = silent_after (speaks.whole unfailed) front.silent;
 })
 
 -- a run is closed as its command came to its end
-pub closes_after : {told : Type 0} {a b c : State} {lines : Bytes} (status result : Status) → Speaks told a b lines status → Closing told b c status result → Closes told a c lines status result
+pub closes_after : {told : Type 0} {a b c : State} {lines : Bytes} (status result : Status) → Speaks told a b lines status → Closing told b c status result → Closes told b.trace a c lines status result
 closes_after {told} {a} {b} {c} {lines} status result speaks closing = ⊎_elim
     (λ silent.
-    let out : Closes told a b lines outcome.OutFault outcome.OutFault = after_silence (subst (λ (s : Status). Speaks told a b lines s) silent.0 speaks) in
-    let left : Closes told a b lines status outcome.OutFault = subst (λ (s : Status). Closes told a b lines s outcome.OutFault) (sym silent.0) out in
-    let right : Closes told a b lines status result = subst (λ (s : Status). Closes told a b lines status s) (sym silent.1) left in
-    subst (λ (s : State). Closes told a s lines status result) (sym silent.2) right)
+    let out : Closes told b.trace a b lines outcome.OutFault outcome.OutFault = after_silence (subst (λ (s : Status). Speaks told a b lines s) silent.0 speaks) in
+    let left : Closes told b.trace a b lines status outcome.OutFault = subst (λ (s : Status). Closes told b.trace a b lines s outcome.OutFault) (sym silent.0) out in
+    let right : Closes told b.trace a b lines status result = subst (λ (s : Status). Closes told b.trace a b lines status s) (sym silent.1) left in
+    subst (λ (s : State). Closes told b.trace a s lines status result) (sym silent.2) right)
     (λ said. after_lines status result said.0 speaks said.1)
     closing.ends

@@ -1,5 +1,5 @@
 -- The record of a command, from the moment when it came to its end on to the return of the run.
-use Rattle.std.proofs.Common.{◌≡◌, ◌⊎◌, inl, inr, ⊎_elim, ℕ, ◌<◌, List, [], ◌++◌, Option, Some, None, refl, sym, ◌∙◌, ap, subst, append_assoc}
+use Rattle.std.proofs.Common.{◌≡◌, ◌⊎◌, inl, inr, ⊎_elim, ℕ, ◌<◌, List, Option, Some, None, refl, sym, ◌∙◌, ap, subst}
 use Rattle.nn_base.specs.Paths.{Bytes}
 use Rattle.nn_host.specs.Disk.{Disk, Reads}
 use Rattle.nn_host.specs.Moments.{Dir, Entry, State, IsLawful, disk_at}
@@ -11,39 +11,52 @@ use Rattle.nn_pick.specs.Dirs.{EachChoice}
 use Rattle.nn_open.specs.Formatted.{IsFormatted, ReadsFormatted, OpensEmpty, OpenEmptySoundly}
 use Rattle.nn_open.specs.Answers.{AllFormatted, IsRefused, settled_disk}
 use Rattle.nn_server.specs.declared.state_run.StateEnd.{StateEnd}
+use Rattle.nn_server.specs.declared.dry_run.DryEnd.{DryEnd}
 use Rattle.nn_server.specs.declared.format_run.FormatEnd.{FormatEnd}
 use Rattle.nn_server.specs.declared.format_run.FormatEnd.TheVariants.{Done, Refused, HostFault, Memory, OutFault}
 use Rattle.nn_server.specs.declared.status.Status.{Status}
 use Rattle.nn_server.specs.Came.{Counts, TouchesNoDir, CameTo}
 use Rattle.nn_server.specs.States.{StateRan, state_failed, state_status}
+use Rattle.nn_server.specs.Dry.{DryRan}
+use Rattle.nn_server.specs.Codes.{dry_status}
 use Rattle.nn_server.specs.Format.{FreshOrAsked, FormatDid, FormatRan, format_failed, format_status}
 use Rattle.nn_server.proofs.FormatLemmas.{asked_left}
 use Rattle.nn_top.specs.Did.{Ended}
-use Rattle.nn_top.specs.Closes.{GoesOn, Closing}
+use Rattle.nn_top.specs.Closes.{Closing}
 use Rattle.nn_top.proofs.ClosesLemmas.{closes_after}
 
 counts_on : {told : Type 0} (a b c : State) (failed : Option ℕ) → Counts failed a b → TouchesNoDir told b c → Counts failed a c
 counts_on a b c None p q = record { faults = λ j. q.faults j ∙ p.faults j }
 counts_on a b c (Some i) p q = record { below = p.below; rose = q.faults i ∙ p.rose; others = λ j other. q.faults j ∙ p.others j other }
 
-state_on : {told : Type 0} {a b c : State} {lines : Bytes} (end : StateEnd) → StateRan told a b lines end → TouchesNoDir told b c → (told → GoesOn b c) → StateRan told a c lines end
-state_on {a = a} {b = b} {c = c} end ran dirs goes_on = record {
+touched_on : {told : Type 0} {a b c : State} → TouchesNoDir told a b → TouchesNoDir told b c → TouchesNoDir told a c
+touched_on p q = record {
+  kept = untouched_trans p.kept q.kept;
+  faults = λ j. q.faults j ∙ p.faults j;
+  reads = λ tells j. q.reads tells j ∙ p.reads tells j;
+}
+
+state_on : {told : Type 0} {a b c : State} {lines : Bytes} {trace : List Entry} (end : StateEnd) → StateRan told a b lines trace end → TouchesNoDir told b c → StateRan told a c lines trace end
+state_on {a = a} {b = b} {c = c} end ran dirs = record {
   named = ran.named;
   said = ran.said;
-  calls = λ tells.
-      let before = ran.calls tells in
-      let more = goes_on tells in (
-        before.0,
-        before.1 ++ more.0,
-        before.2,
-        more.1
-            ∙ ap (λ (l : List Entry). l ++ more.0) before.3
-            ∙ append_assoc a.trace (before.0 ++ before.1) more.0
-            ∙ ap (λ (l : List Entry). a.trace ++ l) (append_assoc before.0 before.1 more.0),
-      );
+  calls = ran.calls;
   kept = untouched_trans ran.kept dirs.kept;
   reads = λ tells j other. dirs.reads tells j ∙ ran.reads tells j other;
   counted = counts_on a b c (state_failed end) ran.counted dirs;
+}
+
+dry_on : {told told_source : Type 0} {script left : Bytes} {before after : ℕ} {a b c : State} {lines : Bytes} {trace : List Entry} (end : DryEnd) → DryRan told told_source script left before after a b lines trace end
+    → TouchesNoDir told b c → DryRan told told_source script left before after a c lines trace end
+dry_on end ran dirs = record {
+  taken = ran.taken;
+  lines = ran.lines;
+  fits = ran.fits;
+  lines_are = ran.lines_are;
+  of_script = ran.of_script;
+  said = ran.said;
+  dirs = touched_on ran.dirs dirs;
+  counted = ran.counted;
 }
 
 -- ---- `format`
@@ -90,20 +103,25 @@ format_on {a = a} {b = b} {c = c} {lines = lines} cluster namespace end lawful r
 
 -- ---- from the command's end to the return
 
-pub state_ended : {told : Type 0} {a b c : State} (end : StateEnd) (result : Status) → CameTo told a b state_status (StateRan told a b) end → Closing told b c (state_status end) result
-    → Ended told a c state_status (StateRan told a c) result
-state_ended end result came closing = record {
+ended : {End : Type 0} {told : Type 0} {a b c : State} {status_of : End → Status} {Before After : Bytes → List Entry → End → Type 0} (end : End) (result : Status)
+    → ((lines : Bytes) (trace : List Entry) → Before lines trace end → After lines trace end) → CameTo told a b status_of Before end → Closing told b c (status_of end) result → Ended told a c status_of After result
+ended {b = b} {status_of = status_of} end result on came closing = record {
   end = end;
   lines = came.lines;
-  ran = state_on end came.ran closing.dirs closing.calls;
-  closes = closes_after (state_status end) result came.speaks closing;
+  trace = b.trace;
+  ran = on came.lines b.trace came.ran;
+  closes = closes_after (status_of end) result came.speaks closing;
 }
 
+pub state_ended : {told : Type 0} {a b c : State} (end : StateEnd) (result : Status) → CameTo told a b state_status (StateRan told a b) end → Closing told b c (state_status end) result
+    → Ended told a c state_status (StateRan told a c) result
+state_ended end result came closing = ended end result (λ lines trace ran. state_on end ran closing.dirs) came closing
+
 pub format_ended : {told : Type 0} {a b c : State} (cluster : Bytes) (namespace : ℕ) (end : FormatEnd) (result : Status) → (told → IsLawful a)
-    → CameTo told a b format_status (FormatRan told cluster namespace a b) end → Closing told b c (format_status end) result → Ended told a c format_status (FormatRan told cluster namespace a c) result
-format_ended cluster namespace end result lawful came closing = record {
-  end = end;
-  lines = came.lines;
-  ran = format_on cluster namespace end lawful came.ran closing.dirs;
-  closes = closes_after (format_status end) result came.speaks closing;
-}
+    → CameTo told a b format_status (λ lines trace. FormatRan told cluster namespace a b lines) end → Closing told b c (format_status end) result
+    → Ended told a c format_status (λ lines trace. FormatRan told cluster namespace a c lines) result
+format_ended cluster namespace end result lawful came closing = ended end result (λ lines trace ran. format_on cluster namespace end lawful ran closing.dirs) came closing
+
+pub dry_ended : {told told_source : Type 0} {script left : Bytes} {before after : ℕ} {a b c : State} (end : DryEnd) (result : Status) → CameTo told a b dry_status (DryRan told told_source script left before after a b) end
+    → Closing told b c (dry_status end) result → Ended told a c dry_status (DryRan told told_source script left before after a c) result
+dry_ended end result came closing = ended end result (λ lines trace ran. dry_on end ran closing.dirs) came closing

@@ -4,5 +4,4 @@ pub mod FormatWordsLemmas
 pub mod LineLemmas
 pub mod ClosesLemmas
 pub mod DidLemmas
-pub mod DryLemmas
 pub mod UsageLemmas

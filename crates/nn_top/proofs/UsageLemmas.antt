@@ -1,8 +1,8 @@
 -- A command that was run doesn't end by the status of words without a reading.
-use Rattle.std.proofs.Common.{◌≡◌, ◌≢◌, ◌⊎◌, inl, inr, ⊎_elim, true, false, [], sym, ◌∙◌}
+use Rattle.std.proofs.Common.{◌≡◌, ◌≢◌, ◌⊎◌, inl, inr, ⊎_elim, true, false, List, [], sym, ◌∙◌}
 use Rattle.std.proofs.lemmas.Bool.{false≢true}
 use Rattle.nn_base.specs.Paths.{Bytes}
-use Rattle.nn_host.specs.Moments.{State}
+use Rattle.nn_host.specs.Moments.{Entry, State}
 use Rattle.nn_server.specs.declared.state_run.StateEnd.{StateEnd}
 use Rattle.nn_server.specs.declared.state_run.StateEnd.TheVariants as states
 use Rattle.nn_server.specs.declared.format_run.FormatEnd.{FormatEnd}
@@ -17,10 +17,10 @@ use Rattle.nn_server.specs.Codes.{dry_status}
 use Rattle.nn_top.specs.Closes.{ClosesWhole, ClosesCut}
 use Rattle.nn_top.specs.Did.{Ended, Unread}
 
-pub not_usage : {End : Type 0} {told : Type 0} {a b : State} {status_of : End → Status} {Ran : Bytes → End → Type 0} {result : Status} → ((end : End) → status_of end ≢ Usage) → Ended told a b status_of Ran result → result ≢ Usage
+pub not_usage : {End : Type 0} {told : Type 0} {a b : State} {status_of : End → Status} {Ran : Bytes → List Entry → End → Type 0} {result : Status} → ((end : End) → status_of end ≢ Usage) → Ended told a b status_of Ran result → result ≢ Usage
 not_usage {told = told} {a = a} {b = b} {status_of = status_of} {result = result} others ended is = ⊎_elim
-    (λ (all : ClosesWhole told a b ended.lines (status_of ended.end) result). ⊎_elim (λ same. others ended.end (sym same ∙ is)) (λ memory. let no : Memory ≡ Usage = sym memory.0 ∙ is in cc) all.is_last)
-    (λ (front : ClosesCut told a b ended.lines (status_of ended.end) result). let no : OutFault ≡ Usage = sym front.failed ∙ is in cc)
+    (λ (all : ClosesWhole told ended.trace a b ended.lines (status_of ended.end) result). ⊎_elim (λ same. others ended.end (sym same ∙ is)) (λ memory. let no : Memory ≡ Usage = sym memory.0 ∙ is in cc) all.is_last)
+    (λ (front : ClosesCut told ended.trace a b ended.lines (status_of ended.end) result). let no : OutFault ≡ Usage = sym front.failed ∙ is in cc)
     ended.closes
 
 pub state_not_usage : (end : StateEnd) → state_status end ≢ Usage
@@ -47,6 +47,6 @@ dry_not_usage dry.OutFault is = cc
 -- words without a reading end by it, unless the output fails
 pub unread_ends : {told : Type 0} {a b : State} {result : Status} → Unread told a b result → (result ≡ Usage) ⊎ (result ≡ OutFault)
 unread_ends {told} {a} {b} {result} unread = ⊎_elim
-    (λ (all : ClosesWhole told a b [] Usage result). ⊎_elim (λ same. inl same) (λ memory. let no : false ≡ true = memory.1 in absurd (false≢true no)) all.is_last)
-    (λ (front : ClosesCut told a b [] Usage result). inr front.failed)
+    (λ (all : ClosesWhole told a.trace a b [] Usage result). ⊎_elim (λ same. inl same) (λ memory. let no : false ≡ true = memory.1 in absurd (false≢true no)) all.is_last)
+    (λ (front : ClosesCut told a.trace a b [] Usage result). inr front.failed)
     unread.closes

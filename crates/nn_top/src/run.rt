@@ -1,18 +1,20 @@
 // A whole run of the program, but for the real folders, the real input and the real output.
-ghost use Rattle.std.specs.Prelude.{◌≡◌, ◌⊎◌, ◌≤◌, false, true, IfOk, IsTrue, length};
+ghost use Rattle.std.specs.Prelude.{◌≡◌, ◌⊎◌, ◌≤◌, ◌∷◌, [], None, false, true, IfOk, IfSome, IsTrue, length};
 ghost use Rattle.std.specs.String.{string_bytes};
 ghost use Rattle.nn_base.specs.Words.{is_word};
+ghost use Rattle.nn_host.specs.Moments.{Say};
 ghost use Rattle.nn_host.specs.Calls.{most_said};
 ghost use Rattle.nn_server.specs.Came.{is_out_fault};
 ghost use Rattle.nn_server.specs.States.{StateRan, state_status};
 ghost use Rattle.nn_server.specs.Format.{FormatRan, format_status};
+ghost use Rattle.nn_server.specs.Dry.{DryRan};
 ghost use Rattle.nn_server.specs.Codes.{dry_status};
 ghost use Rattle.nn_top.specs.Words.{texts};
 ghost use Rattle.nn_top.specs.Wanted.{dirs_in};
 ghost use Rattle.nn_top.specs.Commands.{Asks, HaveNoReading};
 ghost use Rattle.nn_top.specs.Lines.{last_line};
-ghost use Rattle.nn_top.specs.Did.{Ended, DryDid, Unread, Did};
-ghost use Rattle.nn_top.specs.Closes.{is_made, IsLast, Closing};
+ghost use Rattle.nn_top.specs.Did.{Ended, Unread, Did};
+ghost use Rattle.nn_top.specs.Closes.{is_made, IsLast, last_call, Closing};
 
 use crate::words::{Command, command_of};
 use nn_base::{DirNo, NoMemory, Word};
@@ -63,7 +65,7 @@ fn run_format<H: Host>(alloc: Global, host: &mut H, cluster: &Word, namespace: u
     requires some { 1 ≤ namespace }
     requires fits { namespace ≤ 2147483647 }
     ensures { Ended H.told (H.state host.old) (H.state host.new) format_status
-        (FormatRan H.told cluster.now namespace (H.state host.old) (H.state host.new)) result }
+        (λ lines trace. FormatRan H.told cluster.now namespace (H.state host.old) (H.state host.new) lines) result }
 {
     let end = format(alloc, host, cluster, namespace);
     close(alloc, host, end.status())
@@ -71,7 +73,7 @@ fn run_format<H: Host>(alloc: Global, host: &mut H, cluster: &Word, namespace: u
 
 fn run_dry<H: Host, S: Source>(alloc: Global, host: &mut H, source: &mut S) -> Status
     ensures { Ended H.told (H.state host.old) (H.state host.new) dry_status
-        (DryDid H.told S.told (S.left source.old) (S.left source.new) (S.faults source.old) (S.faults source.new)
+        (DryRan H.told S.told (S.left source.old) (S.left source.new) (S.faults source.old) (S.faults source.new)
         (H.state host.old) (H.state host.new)) result }
 {
     let end = dry(alloc, host, source);
@@ -83,17 +85,42 @@ fn close<H: Host>(alloc: Global, host: &mut H, status: Status) -> Status
     ensures { Closing H.told (H.state host.old) (H.state host.new) status result }
 {
     match status {
-        Status::Ok => Status::Ok,
-        Status::OutFault => Status::OutFault,
-        Status::Usage => say_last(host, b"usage\n", Status::Usage),
-        Status::SourceFault => say_last(host, b"source fault\n", Status::SourceFault),
-        Status::ScriptTooLong => say_last(host, b"script too long\n", Status::ScriptTooLong),
-        Status::Memory => say_last(host, b"no memory\n", Status::Memory),
         Status::Refused(refusal) => {
             let line = refusal.text(alloc);
             say_made(host, line, Status::Refused(refusal))
         }
         Status::HostFault(i) => say_made(host, fault_line(alloc, i), Status::HostFault(i)),
+        _ => say_plain(host, status),
+    }
+}
+
+#[tactic(auto, using(crate::proofs::ClosesLemmas::closes_unsaid))]
+fn say_plain<H: Host>(host: &mut H, status: Status) -> Status
+    requires { is_made status ≡ false }
+    ensures { Closing H.told (H.state host.old) (H.state host.new) status result }
+{
+    let last = status;
+    match plain_line(status) {
+        Some(line) => say_last(host, line, last),
+        None => last,
+    }
+}
+
+// The last line of a status for which none has to be made; two have none at all.
+fn plain_line(status: Status) -> Option<&'static [u8]>
+    requires { is_made status ≡ false }
+    ensures some { IfSome result (λ line. line.now ≡ last_line status) }
+    ensures short { IfSome result (λ line. length line.now ≤ most_said) }
+    ensures call { IfSome result (λ line. last_call status ≡ Say (last_line status) ∷ []) }
+    ensures none { result ≡ None → last_call status ≡ [] }
+{
+    match status {
+        Status::Ok | Status::OutFault => None,
+        Status::Usage => Some(b"usage\n"),
+        Status::SourceFault => Some(b"source fault\n"),
+        Status::ScriptTooLong => Some(b"script too long\n"),
+        Status::Memory => Some(b"no memory\n"),
+        Status::Refused(_) | Status::HostFault(_) => unreachable!(),
     }
 }
 
@@ -106,7 +133,7 @@ fn fault_line(alloc: Global, i: DirNo) -> Result<String, NoMemory>
 fn say_made<H: Host>(host: &mut H, line: Result<String, NoMemory>, status: Status) -> Status
     requires line { IfOk line (λ made. string_bytes made ≡ last_line status) }
     requires made { is_made status ≡ true }
-    requires unfailed { is_out_fault status ≡ false }
+    requires call { last_call status ≡ Say (last_line status) ∷ [] }
     ensures { Closing H.told (H.state host.old) (H.state host.new) status result }
 {
     match line {
@@ -119,7 +146,7 @@ fn say_made<H: Host>(host: &mut H, line: Result<String, NoMemory>, status: Statu
 fn say_last<H: Host>(host: &mut H, line: &[u8], last: Status) -> Status
     requires line { line.now ≡ last_line last }
     requires short { length line.now ≤ most_said }
-    requires unfailed { is_out_fault last ≡ false }
+    requires call { last_call last ≡ Say (last_line last) ∷ [] }
     ensures { (status : _) → IsLast status last → is_out_fault status ≡ false → Closing H.told (H.state host.old) (H.state host.new) status result }
 {
     match host.say(line) {

@@ -60,6 +60,11 @@ pub fn lacks(host: &mut MemHost, i: DirNo, name: FileName) -> bool {
     i.0 < host.count() && host.has_file(i, Sub::Current, name) == Ok(false)
 }
 
+// Whether the directory has no such folder.
+pub fn lacks_sub(host: &mut MemHost, i: DirNo, sub: Sub) -> bool {
+    i.0 < host.count() && host.has_sub(i, sub) == Ok(false)
+}
+
 pub fn has_sub(host: &mut MemHost, i: DirNo, sub: Sub) -> bool {
     i.0 < host.count() && host.has_sub(i, sub) == Ok(true)
 }

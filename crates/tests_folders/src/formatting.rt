@@ -1,5 +1,5 @@
 // Formats of several directories.
-use crate::folder::{DIGEST_0, IMAGE_0, KEEPS, OTHERS, VERSION, has, has_sub, names};
+use crate::folder::{DIGEST_0, IMAGE_0, KEEPS, OTHERS, VERSION, has, has_sub, lacks_sub, names};
 use nn_base::{DirNo, FileName, Sub, Txid};
 use nn_host::Host;
 use nn_marks::version_read;
@@ -67,7 +67,7 @@ fn a_format_leaves_version_seen_txid_and_an_image_and_no_more(rt: HostRuntime) -
         assert!(rt; has(alloc, &mut host, i, FileName::Image(Txid(0)), IMAGE_0));
         assert!(rt; has(alloc, &mut host, i, FileName::Md5(Txid(0)), DIGEST_0));
         for sub in OTHERS {
-            assert!(rt; !has_sub(&mut host, i, sub));
+            assert!(rt; lacks_sub(&mut host, i, sub));
         }
     }
     assert!(rt; host.said().is_empty());

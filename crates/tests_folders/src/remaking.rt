@@ -1,6 +1,7 @@
 // Images that are published and directories that are made.
 use crate::folder::{
-    DIGEST_0, DIGEST_5, IMAGE_0, IMAGE_5, KEEPS, OTHERS, PARTS, VERSION, has, has_sub, lacks, names,
+    DIGEST_0, DIGEST_5, IMAGE_0, IMAGE_5, KEEPS, OTHERS, PARTS, VERSION, has, lacks, lacks_sub,
+    names,
 };
 use nn_base::{DirNo, FileName, Sub, Txid};
 use nn_chain::read_image;
@@ -186,7 +187,7 @@ fn a_directory_that_is_made_has_just_its_four_files(rt: HostRuntime) -> Result<(
     assert!(rt; names.as_slice() == wanted.as_slice());
     assert!(rt; has_four(alloc, &mut host));
     for sub in OTHERS {
-        assert!(rt; !has_sub(&mut host, DIR, sub));
+        assert!(rt; lacks_sub(&mut host, DIR, sub));
     }
     Ok(())
 }

@@ -403,17 +403,26 @@ const BLOCK: Block = Block {
     length: 5,
 };
 
-/// What is said of a node at a path of one name.
-fn node_text(alloc: Global, node: &Node, usage: Usage, name: &[u8]) -> Result<Vec<u8>, Fail>
+/// The line of a node, whose path comes as it is printed.
+fn node_line(alloc: Global, node: &Node, usage: Usage, path: &[u8]) -> Result<Vec<u8>, Fail>
     requires bounds { IsNode node.now }
+{
+    let mut line = Vec::with_capacity(alloc, MAX_PART)?;
+    node_words(node, usage, &mut line);
+    line.extend_from_slice(path)?;
+    line.extend_from_slice(b"\n")?;
+    Ok(line)
+}
+
+/// How a path below the root is printed, whose last name is this one.
+fn below(alloc: Global, above: &[u8], name: &[u8]) -> Result<Vec<u8>, Fail>
     requires short { length name.now ≤ 255 }
 {
-    let mut words = Vec::with_capacity(alloc, MAX_PART)?;
-    node_words(node, usage, &mut words);
-    let mut path = Vec::with_capacity(alloc, MAX_PART)?;
-    name_text(name, &mut path);
-    words.extend_from_slice(&path)?;
-    Ok(words)
+    let mut last = Vec::with_capacity(alloc, MAX_PART)?;
+    name_text(name, &mut last);
+    let mut path = Vec::from_slice(alloc, above)?;
+    path.extend_from_slice(&last)?;
+    Ok(path)
 }
 
 #[test]
@@ -430,13 +439,16 @@ fn a_listing_says_a_node_and_its_blocks(rt: HostRuntime) -> Result<(), Fail> {
         names: 2,
         space: 10,
     };
-    let a = node_text(alloc, &directory(0o755, owner, group, quota), usage, b"a")?;
-    assert!(rt; a.as_slice() == b"d 16386 0755 o g 9 - - 2 10 /a".as_slice());
-    let f = node_text(alloc, &file(alloc, hdfs, group)?, usage, b"f")?;
-    assert!(rt; f.as_slice() == b"f 16387 0644 hdfs g 9 2 open 1 5 /f".as_slice());
+    let a = below(alloc, b"", b"a")?;
+    let mut said = node_line(alloc, &directory(0o755, owner, group, quota), usage, &a)?;
+    let f = below(alloc, &a, b"f")?;
+    said.extend_from_slice(&node_line(alloc, &file(alloc, hdfs, group)?, usage, &f)?)?;
     let mut block = Vec::with_capacity(alloc, MAX_PART)?;
     block_line(BLOCK, &mut block);
-    assert!(rt; block.as_slice() == b"b 1073741825 1001 5\n".as_slice());
+    said.extend_from_slice(&block)?;
+    let wanted =
+        b"d 16386 0755 o g 9 - - 2 10 /a\nf 16387 0644 hdfs g 9 2 open 1 5 /a/f\nb 1073741825 1001 5\n";
+    assert!(rt; said.as_slice() == wanted.as_slice());
     Ok(())
 }
 
@@ -455,7 +467,8 @@ fn what_would_not_be_a_word_is_printed_with_escapes(rt: HostRuntime) -> Result<(
     };
     let node = directory(0o1000, owner, group, quota);
     let line =
-        b"d 16386 1000 %25 g%20%7f%ff 9 9223372036854775807 0 1 340282366920938463463374607431768211455 /~!%0a%25";
-    assert!(rt; node_text(alloc, &node, usage, b"~!\n%")?.as_slice() == line.as_slice());
+        b"d 16386 1000 %25 g%20%7f%ff 9 9223372036854775807 0 1 340282366920938463463374607431768211455 /~!%0a%25\n";
+    let path = below(alloc, b"", b"~!\n%")?;
+    assert!(rt; node_line(alloc, &node, usage, &path)?.as_slice() == line.as_slice());
     Ok(())
 }

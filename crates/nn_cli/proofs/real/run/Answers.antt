@@ -7,4 +7,4 @@ pub run_unread-requires : goal.run_unread-requires
 run_unread-requires g c = c.dirs_of.ensures.usage.0 (c.in-Err-Usage.is ∙ ap Err c.in-Err-Usage.field-0-is)
 
 pub returns-in-Err-Memory : goal.returns-in-Err-Memory
-returns-in-Err-Memory g c = exits_starved (texts c.args.words.now) c.code.result c.code.ensures
+returns-in-Err-Memory g c = exits_starved (texts c.args.words.now) c.starved.result c.starved.ensures

@@ -1,6 +1,7 @@
-use Rattle.std.proofs.Common.{arith, ap, sym, length, ◌∙◌}
+use Rattle.std.proofs.Common.{◌≡◌, arith, ap, length, ◌∙◌}
 use Rattle.std.proofs.lemmas.List.{length-map}
 use Rattle.std.specs.String.{string_bytes}
+use Rattle.nn_files.specs.Untold.{unfailed_state}
 use Rattle.nn_host.specs.Moments.{State}
 use Rattle.nn_top.specs.Words.{texts}
 use Rattle.nn_top.specs.Wanted.{Wanted, dirs_in}
@@ -17,8 +18,11 @@ namenode-requires g c = λ wanted asks.
     let count = ap (λ (s : State). s.count) c.in-Ok.ensures in
     omega (arith, same, count, ap length c.requires.2, length-map c.args.dirs.items string_bytes)
 
-pub returns-in-Ok : goal.returns-in-Ok
-returns-in-Ok g c = exits_done (texts c.args.words.now) c.requires.0 c.namenode.result c.code.result c.requires.1 c.code.ensures c.namenode.ensures.usage_only
-
 pub returns : goal.returns
-returns g c = exits_starved (texts c.args.words.now) c.code-in-Err.result c.code-in-Err.ensures
+returns g c = exits_starved (texts c.args.words.now) c.starved.result c.starved.ensures
+
+pub returns-in-Ok : goal.returns-in-Ok
+returns-in-Ok g c =
+    let count : length c.args.dirs.items ≡ length (dirs_in c.requires.0) = omega (arith, length-map c.args.dirs.items string_bytes, ap length c.requires.2) in
+    exits_done _ _ c.new-source.result c.namenode.new.source _ _ (texts c.args.words.now) c.requires.0 c.namenode.result c.code.result c.requires.1 c.code.ensures c.new-source.ensures
+    (c.in-Ok.ensures ∙ ap unfailed_state count) (c.namenode.ensures.did c.requires.0 c.requires.1)

@@ -13,7 +13,8 @@ use Rattle.nn_script.specs.declared.syntax.Syntax.TheVariants as syntax
 use Rattle.nn_script.specs.Reading.{reading_of}
 use Rattle.nn_script.specs.Spelling.{answer_text}
 use Rattle.nn_script.specs.Answers.{State, change_text, reply_by}
-use Rattle.nn_server.proofs.SayingLemmas.{pieces_one, pieces_none, pieces_within, concat_pieces}
+use Rattle.nn_server.proofs.SayingLemmas.{pieces_one, pieces_none, pieces_within, concat_pieces, cut_front}
+use Rattle.nn_server.proofs.DryLemmas.{concat_to}
 use Rattle.nn_server.proofs.laws.answers_go_out_in_pieces.Goals as goal
 
 refused : (why : OpRefusal) → length (answer_text (Refused why)) ≤ 24
@@ -79,3 +80,9 @@ returns-clause-each c = λ text. pieces_within text
 
 pub returns-clause-joined : goal.returns-clause-joined
 returns-clause-joined c = λ text. concat_pieces text
+
+pub returns-clause-answers : goal.returns-clause-answers
+returns-clause-answers c = λ s lines. concat_to s lines
+
+pub returns-clause-front : goal.returns-clause-front
+returns-clause-front c = λ pieces text asked cut. cut_front cut

@@ -1,7 +1,7 @@
 use Rattle.std.proofs.Common.{sym, subst}
 use Rattle.nn_server.specs.declared.status.Status.{Status}
 use Rattle.nn_top.specs.Closes.{Closing}
-use Rattle.nn_top.proofs.DryLemmas.{dry_ended}
+use Rattle.nn_top.proofs.DidLemmas.{dry_ended}
 use Rattle.nn_top.proofs.run.run_dry.Goals as goal
 
 pub returns : goal.returns

@@ -16,12 +16,14 @@ returns-then-read_ahead-clause-ok g c =
 pub returns-then-self-eq0-clause-ok : goal.returns-then-self-eq0-clause-ok
 returns-then-self-eq0-clause-ok g c =
     let read = has_read_more (g.S.Source.left c.parts.source) c.parts.self.room c.parts.invariant.read c.if-read_ahead.ensures.read in
-    past_room (g.S.Source.left c.parts.source) (g.S.Source.left c.past_room.new.source) c.in_ok-next.next _ read (c.if-read_ahead.ensures.read.all refl) (omega (arith, c.if-self-eq0.true, c.if-read_ahead.ensures.room)) (omega (arith, c.if-read_ahead.ensures.room)) c.in_ok-next.ensures.ok
+    let line = c.read_ahead.new.self.line.items in
+    subst (λ (next : Next). IsNext g.S.Source.told next (ahead c.args.self.now ++ g.S.Source.left c.args.source.now) (ahead c.read_ahead.new.self ++ g.S.Source.left c.one_more.new.source) (budget c.args.self.now) (budget c.read_ahead.new.self) line) (sym c.past_room.ensures)
+    (past_room (g.S.Source.left c.parts.source) (g.S.Source.left c.one_more.new.source) c.in_ok-more.more _ read (c.if-read_ahead.ensures.read.all refl) (omega (arith, c.if-self-eq0.true, c.if-read_ahead.ensures.room)) (omega (arith, c.if-read_ahead.ensures.room)) c.in_ok-more.ensures.ok)
 
-pub returns-in_err-next-clause-err : goal.returns-in_err-next-clause-err
-returns-in_err-next-clause-err g c =
+pub returns-in_err-more-clause-err : goal.returns-in_err-more-clause-err
+returns-in_err-more-clause-err g c =
     let read = has_read_more (g.S.Source.left c.parts.source) c.parts.self.room c.parts.invariant.read c.if-read_ahead.ensures.read in
-    on_err _ (stopped read (λ tells. ap (λ x. x ++ g.S.Source.left c.parts.source) (c.if-read_ahead.ensures.read.all refl) ∙ sym (c.in_err-next.ensures.err tells)))
+    on_err _ (stopped read (λ tells. ap (λ x. x ++ g.S.Source.left c.parts.source) (c.if-read_ahead.ensures.read.all refl) ∙ sym (c.in_err-more.ensures.err tells)))
 
 pub returns-in_err-some-clause-err : goal.returns-in_err-some-clause-err
 returns-in_err-some-clause-err g c =
