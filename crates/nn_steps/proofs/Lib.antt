@@ -10,3 +10,4 @@ pub mod PublishedLemmas
 pub mod ToppedLemmas
 pub mod BroughtLemmas
 pub mod LoggedLemmas
+pub mod TidiedLemmas

@@ -82,7 +82,7 @@ pub record IsTrimmed (old new : Folder) : Type 0 where
   pub segments : (n : FileName) (first : ℕ) → first_in n ≡ Some first → (new n ≡ old n) ⊎ (new n ≡ None)
   pub falling : (n m : FileName) (i j : ℕ) → first_in n ≡ Some i → first_in m ≡ Some j → IsBefore n m → (new n ≡ old n) ⊎ (new m ≡ None)
 
-moved : (folder its : Folder) (layout : ℤ) (n : FileName) (r : Record) → its n ≡ folder n → HoldsRecord folder layout n r → HoldsRecord its layout n r
+pub moved : (folder its : Folder) (layout : ℤ) (n : FileName) (r : Record) → its n ≡ folder n → HoldsRecord folder layout n r → HoldsRecord its layout n r
 moved folder its layout n r same h = record {
   ranged = h.ranged;
   first = h.first;

@@ -27,7 +27,7 @@ use Rattle.nn_steps.specs.Steps.{PublishingEnds}
 use Rattle.nn_steps.proofs.NormalLemmas.{current_serves, is_current, is_previous}
 
 -- where no record of the next id is, none goes on
-bare_end : (folder : Folder) (version : Version) (at : Reached) → EndsBare folder version at → IsEnd folder version.layout at
+pub bare_end : (folder : Folder) (version : Version) (at : Reached) → EndsBare folder version at → IsEnd folder version.layout at
 bare_end folder version at bare r next = bare next.its.name r next.next next.its.holds
 
 module _ (version : Version) (has : Bool) (what : Option Namespace) (at : Reached) (before c : Reads) (normal : IsIn Normal before) (beside : BesideImage at.last before c) (keeps : KeepsRank version at (folder_at before Current) (folder_at c Current)) (is : EndsAt before version has what at) where

@@ -11,6 +11,7 @@ use Rattle.nn_state.specs.Recovery.{KeepsSeat}
 use Rattle.nn_tree.specs.Namespace.{Namespace}
 use Rattle.nn_chain.specs.Folder.{HasVersion, folder_at}
 use Rattle.nn_chain.specs.Fair.{IsFair}
+use Rattle.nn_chain.specs.Images.{IsIntact}
 use Rattle.nn_segment_file.specs.Steps.{Logged}
 use Rattle.nn_remake.specs.Clearing.{IsAtRest, IsGivingUp, IsClearing}
 use Rattle.nn_remake.specs.Made.{IsMade, FreshOrMade}
@@ -19,6 +20,7 @@ use Rattle.nn_remake.specs.Rank.{IsRanked}
 use Rattle.nn_kept.specs.Kept.{Shared, IsKept}
 use Rattle.nn_kept.specs.Laws.{IsOutranked, EachLeft, IsKeptDisk}
 use Rattle.nn_kept.specs.Ends.{EndsAt, EndsBetween, HasRoom}
+use Rattle.nn_steps.specs.Tidying.{IsTidying}
 
 -- ---- a directory that isn't formatted, or is being made
 
@@ -99,6 +101,14 @@ GivingUpEnds = (version : Version) (has : Bool) (what : Option Namespace) (list 
 abbrev pub PublishingEnds : Type 0
 PublishingEnds = (version : Version) (has : Bool) (what : Option Namespace) (list : ℕ → Namespace) (id : ℕ) (old d : Disk) → IsIn Normal old → EndsBetween version has what list id id old
     → IsRanked version (record { last = id; ns = list id }) old d → EndsBetween version has what list id id d
+
+-- ---- a directory that is tidied
+
+-- Beside an intact image at which its chain ends, at each moment of its tidying it goes on to end there, and the image stays.
+abbrev pub TidyingEnds : Type 0
+TidyingEnds = (version : Version) (has : Bool) (what : Option Namespace) (list : ℕ → Namespace) (id : ℕ) (old d : Disk) → IsIn Normal old → EndsBetween version has what list id id old
+    → EachLeft old (λ c. IsIntact (folder_at c Current) version id (list id)) → IsTidying id old d
+    → EachLeft d (λ c. ((n : ℕ) × (id ≤ n) × (n ≤ id) × EndsAt c version has what (record { last = n; ns = list n })) × IsIntact (folder_at c Current) version id (list id))
 
 -- ---- a directory whose segments are written to
 

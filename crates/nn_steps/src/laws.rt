@@ -1,5 +1,5 @@
 // What follows from the contracts of the steps on one directory, for the calls that compose them: no call does anything here.
-ghost use Rattle.nn_steps.specs.Steps.{FreshIsKept, MakingKeeps, MadeEnds, RecoveringKeeps, RecoveringLeavesBehind, RecoveringEnds, ClearingKeeps, GivingUpKeeps, ToppingUpKeeps, ToppedUpEnds, GivingUpEnds, LoggingEnds, PublishingEnds};
+ghost use Rattle.nn_steps.specs.Steps.{FreshIsKept, MakingKeeps, MadeEnds, RecoveringKeeps, RecoveringLeavesBehind, RecoveringEnds, ClearingKeeps, GivingUpKeeps, ToppingUpKeeps, ToppedUpEnds, GivingUpEnds, TidyingEnds, LoggingEnds, PublishingEnds};
 
 /// A directory that isn't formatted is kept.
 pub fn a_directory_not_formatted_is_kept()
@@ -59,6 +59,11 @@ pub fn a_topped_up_directory_ends()
 /// A directory ends where it ended at each moment of the publishing of the image at which its chain ends.
 pub fn a_directory_published_into_ends()
     ensures { PublishingEnds }
+{}
+
+/// A directory ends where it ended, beside the image there, at each moment of its tidying.
+pub fn a_directory_in_tidying_ends()
+    ensures { TidyingEnds }
 {}
 
 /// A directory ends at one of the ids in flight at each moment at which its segments are written to.
