@@ -1,5 +1,5 @@
 -- A directory whose segments are written to.
-use Rattle.std.proofs.Common.{◌≡◌, ◌≢◌, ◌⊎◌, inl, inr, ⊎_elim, ℕ, ◌≤◌, Bool, List, Option, Some, refl, sym, ◌∙◌, ap, subst, arith}
+use Rattle.std.proofs.Common.{◌≡◌, ◌⊎◌, inl, inr, ⊎_elim, ℕ, ◌≤◌, Bool, Option, refl, sym, ◌∙◌, ap, subst, arith}
 use Rattle.std.specs.Prelude.{is_some}
 use Rattle.nn_base.specs.declared.sub.Sub.{Sub}
 use Rattle.nn_base.specs.declared.sub.Sub.TheVariants.{Current, Previous}
@@ -17,7 +17,6 @@ use Rattle.nn_tree.specs.Namespace.{Namespace}
 use Rattle.nn_chain.specs.Folder.{Folder, folder_at}
 use Rattle.nn_chain.proofs.SameLemmas.{none_after_bare}
 use Rattle.nn_segment_file.specs.Log.{BesideLog, EndsWithin}
-use Rattle.nn_segment_file.specs.Steps.{Logged}
 use Rattle.nn_remake.proofs.LeftLemmas.{seven_left}
 use Rattle.nn_remake.proofs.TableLemmas.{seven_by}
 use Rattle.nn_pick.specs.Dirs.{ServesPrevious}

@@ -15,15 +15,17 @@ use Rattle.nn_state.specs.declared.state.Why.{Why}
 use Rattle.nn_state.specs.Table.{seven_of, table_of}
 use Rattle.nn_state.specs.Seat.{seat_by, seat_of, if_there, serving, saved}
 use Rattle.nn_state.specs.Typed.{IsIn}
-use Rattle.nn_chain.specs.Folder.{Folder, HasVersion, folder_at}
-use Rattle.nn_chain.specs.Chain.{Reached, IsChain}
+use Rattle.nn_chain.specs.Folder.{Folder, HasVersion, HasSeen, folder_at}
+use Rattle.nn_chain.specs.Chain.{Reached, IsChain, EndsBare}
 use Rattle.nn_remake.proofs.TableLemmas.{seven_by}
 use Rattle.nn_pick.specs.Dirs.{ServesCurrent, ServesPrevious, ServesUnder}
 use Rattle.nn_pick.proofs.VersionLemmas.{one_current}
 use Rattle.nn_kept.specs.Kept.{Shared, IsKept}
 use Rattle.nn_kept.specs.Laws.{IsOutranked}
 use Rattle.nn_kept.specs.Onward.{IsCutFrom}
-use Rattle.nn_kept.proofs.KeptOnwardLemmas.{version_there, cut_is_kept}
+use Rattle.nn_kept.specs.Ends.{EndsAt}
+use Rattle.nn_kept.proofs.KeptOnwardLemmas.{version_there, seen_there, cut_is_kept}
+use Rattle.nn_tree.specs.Namespace.{Namespace}
 use Rattle.nn_steps.proofs.LoweringLemmas.{IsNotRaised}
 
 there_is : (b : Bool) (s : Sub) → if_there b Previous ≡ Some s → Previous ≡ s
@@ -105,3 +107,24 @@ module _ (before c : Reads) (normal : IsIn Normal before) (same : SameMarks befo
   -- and is kept
   pub stays_behind : (shared : Shared) → ((v : Version) → IsNotRaised v (folder_at before Current) (folder_at c Current)) → IsKept shared before → IsOutranked shared before → IsKept shared c
   stays_behind shared lower kept low = cut_is_kept shared before c cut_from kept low (λ v a under. inl (stays_outranked shared lower low v a under))
+
+  -- it ends where the other ends, if its chain ends there
+  pub marks_end : (version : Version) (has : Bool) (what : Option Namespace) (end : Reached) → EndsAt before version has what end → IsChain (folder_at c Current) version end → EndsBare (folder_at c Current) version end → EndsAt c version has what end
+  marks_end version has what end is chain bare =
+      let here = is_current before normal is.folder is.under.serves in
+      record {
+        state = (Normal, normal_too, λ e. cc);
+        folder = folder_at c Current;
+        under = record {
+          serves = current_serves c normal_too;
+          says = version_there (folder_at before Current) (folder_at c Current) version (sym same.version) (subst (λ (f : Folder). HasVersion f version) here is.under.says);
+        };
+        chain = chain;
+        bare = bare;
+        seen = λ id has_seen. is.seen id (subst (λ (f : Folder). HasSeen f id) (sym here) (seen_there (folder_at c Current) (folder_at before Current) id same.seen has_seen));
+        previous = ap (λ (o : Option Sub). is_some o) saved_same ∙ is.previous;
+        holds = λ previous serves. (
+            let it = is.holds previous (previous_before previous serves) in
+            record { sound = it.sound; own = it.own; end = it.end; chain = record { serves = serves; says = it.chain.says; chain = it.chain.chain }; is = it.is; low = it.low; bare = it.bare }
+            );
+      }

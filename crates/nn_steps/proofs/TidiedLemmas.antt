@@ -1,33 +1,30 @@
 -- A directory that is tidied, beside an intact image at which its chain ends.
-use Rattle.std.proofs.Common.{◌≡◌, ◌≢◌, ◌⊎◌, inl, inr, ⊎_elim, ℕ, ◌+◌, ◌<◌, ◌≤◌, Bool, ℤ, List, [], ◌∷◌, Option, Some, None, refl, sym, ◌∙◌, ap, subst, arith}
-use Rattle.std.specs.Prelude.{is_some}
+use Rattle.std.proofs.Common.{◌≡◌, ◌⊎◌, inl, inr, ⊎_elim, ℕ, ◌+◌, ◌<◌, ◌≤◌, Bool, ℤ, List, [], ◌∷◌, Option, None, refl, sym, ◌∙◌, ap, subst, arith}
 use Rattle.std.proofs.lemmas.Option.{none-some}
 use Rattle.nn_base.specs.declared.sub.Sub.{Sub}
 use Rattle.nn_base.specs.declared.sub.Sub.TheVariants.{Current}
 use Rattle.nn_base.specs.declared.file_name.FileName.{FileName}
 use Rattle.nn_base.specs.declared.file_name.FileName.TheVariants as name
 use Rattle.nn_base.proofs.NamesLemmas.{sub_tells}
-use Rattle.nn_host.specs.Disk.{Disk, Reads, File, Leaves}
+use Rattle.nn_host.specs.Disk.{Disk, Reads, Leaves}
 use Rattle.nn_marks.specs.declared.version.Version.{Version}
 use Rattle.nn_record.specs.declared.transaction.Record.{Record}
 use Rattle.nn_state.specs.declared.state.StorageState.TheVariants.{Normal}
 use Rattle.nn_state.specs.Table.{table_of}
 use Rattle.nn_state.specs.Typed.{IsIn}
 use Rattle.nn_tree.specs.Namespace.{Namespace}
-use Rattle.nn_chain.specs.Folder.{Folder, HasVersion, HasSeen, folder_at}
+use Rattle.nn_chain.specs.Folder.{Folder, folder_at}
 use Rattle.nn_chain.specs.Images.{HasIntact, IsIntact, IsNewest}
-use Rattle.nn_chain.specs.Records.{IsWithin, HoldsRecord, HasNoRecord}
+use Rattle.nn_chain.specs.Records.{IsWithin, HasNoRecord}
 use Rattle.nn_chain.specs.Chain.{Reached, after, Leads, IsChain, EndsBare}
 use Rattle.nn_chain.proofs.SameLemmas.{intact_same}
 use Rattle.nn_remake.proofs.LeftLemmas.{seven_left}
-use Rattle.nn_pick.specs.Dirs.{ServesPrevious}
-use Rattle.nn_kept.specs.Ends.{EndsAt, HoldsThere}
-use Rattle.nn_kept.proofs.KeptOnwardLemmas.{version_there, seen_there}
+use Rattle.nn_kept.specs.Ends.{EndsAt}
 use Rattle.nn_steps.specs.Steps.{TidyingEnds}
 use Rattle.nn_steps.specs.Tidying.{IsEndedBy, IsTidying}
 use Rattle.nn_steps.proofs.BesideLemmas.{LeftBeside, left_beside}
 use Rattle.nn_steps.proofs.CutLemmas.{left_none}
-use Rattle.nn_steps.proofs.NormalLemmas.{SameMarks, current_serves, is_current, normal_too, saved_same, previous_before}
+use Rattle.nn_steps.proofs.NormalLemmas.{SameMarks, is_current, marks_end}
 use Rattle.nn_steps.proofs.LoweringLemmas.{moved}
 use Rattle.nn_steps.proofs.PublishedLemmas.{bare_end}
 
@@ -148,25 +145,8 @@ module _ (id : ℕ) (old d : Disk) (is : IsTidying id old d) (c : Reads) (leaves
       from = record { base = ns; intact = image_here version ns intact; records = []; leads = refl; ends = bare_end (folder_at c Current) version (record { last = id; ns = ns }) bare };
     }
 
-    normal_here : IsIn Normal c
-    normal_here = normal_too it.before c (before_normal normal) marks
-
-    holds : (previous : Folder) → ServesPrevious c previous → HoldsThere c version previous id what
-    holds previous serves =
-        let held = was.holds previous (previous_before it.before c (before_normal normal) marks previous serves) in
-        record { sound = held.sound; own = held.own; end = held.end; chain = record { serves = serves; says = held.chain.says; chain = held.chain.chain }; is = held.is; low = held.low; bare = held.bare }
-
     tidied_ends : EndsAt c version has what (record { last = id; ns = ns })
-    tidied_ends = record {
-      state = (Normal, normal_here, λ e. cc);
-      folder = folder_at c Current;
-      under = record { serves = current_serves c normal_here; says = version_there (folder_at it.before Current) (folder_at c Current) version (sym marks.version) (subst (λ (f : Folder). HasVersion f version) here was.under.says) };
-      chain = chain;
-      bare = bare;
-      seen = λ k has_seen. was.seen k (subst (λ (f : Folder). HasSeen f k) (sym here) (seen_there (folder_at c Current) (folder_at it.before Current) k marks.seen has_seen));
-      previous = ap (λ (o : Option Sub). is_some o) (saved_same it.before c (before_normal normal) marks) ∙ was.previous;
-      holds = holds;
-    }
+    tidied_ends = marks_end it.before c (before_normal normal) marks version has what (record { last = id; ns = ns }) was chain bare
 
 pub tidying_ends : TidyingEnds
 unfolding it
