@@ -11,3 +11,4 @@ pub mod ToppedLemmas
 pub mod BroughtLemmas
 pub mod LoggedLemmas
 pub mod TidiedLemmas
+pub mod SettledLemmas

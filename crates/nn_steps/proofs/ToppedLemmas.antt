@@ -141,7 +141,7 @@ module _ (id : ℕ) (old d : Disk) (beside : BesideImage id old d) where
 
 -- ---- the image is there whole
 
-whole_left : (version : Version) (id : ℕ) (ns : Namespace) (d : Disk) (c : Reads) → Leaves d c → IsWhole version id ns d → IsIntact (folder_at c Current) version id ns
+pub whole_left : (version : Version) (id : ℕ) (ns : Namespace) (d : Disk) (c : Reads) → Leaves d c → IsWhole version id ns d → IsIntact (folder_at c Current) version id ns
 whole_left version id ns d c leaves is = record {
   bytes = is.bytes;
   there = sure_left d c Current (name.Image id) is.bytes leaves is.stands.image;

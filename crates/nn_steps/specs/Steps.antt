@@ -1,13 +1,16 @@
 -- What each durable step on a directory keeps: from what it says of the one disk at each moment to what a run keeps of that disk.
-use Rattle.std.specs.Prelude.{◌≡◌, ◌≢◌, ◌⊎◌, None, ℕ, ◌<◌, ◌≤◌, ◌^◌, Bool, false, Option, is_some}
+use Rattle.std.specs.Prelude.{◌≡◌, ◌≢◌, ◌⊎◌, None, ℕ, ◌<◌, ◌≤◌, ◌^◌, Bool, false, Option, is_some, Some}
 use Rattle.nn_base.specs.Limits.{program_layout}
+use Rattle.nn_base.specs.declared.sub.Sub.{Sub}
+use Rattle.nn_base.specs.declared.file_name.FileName.{FileName}
 use Rattle.nn_base.specs.declared.sub.Sub.TheVariants.{Current}
-use Rattle.nn_host.specs.Disk.{Disk, Reads, Leaves}
+use Rattle.nn_host.specs.Disk.{Disk, Reads, Leaves, Settle, certain, disk_after}
+use Rattle.nn_host.specs.Moments.{State, disk_at}
 use Rattle.nn_marks.specs.declared.version.Version.{Version}
 use Rattle.nn_state.specs.declared.state.StorageState.TheVariants.{Normal}
-use Rattle.nn_state.specs.Seat.{saved}
+use Rattle.nn_state.specs.Seat.{serving, saved}
 use Rattle.nn_state.specs.Typed.{IsIn, FitsFresh}
-use Rattle.nn_state.specs.Recovery.{KeepsSeat}
+use Rattle.nn_state.specs.Recovery.{KeepsSeat, WasRecovered}
 use Rattle.nn_tree.specs.Namespace.{Namespace}
 use Rattle.nn_chain.specs.Folder.{HasVersion, folder_at}
 use Rattle.nn_chain.specs.Fair.{IsFair}
@@ -15,6 +18,7 @@ use Rattle.nn_chain.specs.Images.{IsIntact}
 use Rattle.nn_segment_file.specs.Steps.{Logged}
 use Rattle.nn_remake.specs.Clearing.{IsAtRest, IsGivingUp, IsClearing}
 use Rattle.nn_remake.specs.Made.{IsMade, FreshOrMade}
+use Rattle.nn_remake.specs.Published.{IsPublished, IsOnlyOf}
 use Rattle.nn_remake.specs.Topping.{IsToppingUp, IsBroughtTo}
 use Rattle.nn_remake.specs.Rank.{IsRanked}
 use Rattle.nn_kept.specs.Kept.{Shared, IsKept}
@@ -35,6 +39,20 @@ MakingKeeps = (shared : Shared) (version : Version) (id : ℕ) (d : Disk) → Ha
 -- Once it is made it ends at its image, without a previous, whatever others have saved.
 abbrev pub MadeEnds : Type 0
 MadeEnds = (version : Version) (id : ℕ) (list : ℕ → Namespace) (what : Option Namespace) (d : Disk) → version.layout ≡ program_layout → id < 2 ^ 62 → IsMade version id (list id) d → EndsBetween version false what list id id d
+
+-- ---- a directory that was settled
+
+-- What ends somewhere as it reads ends there once it was settled.
+abbrev pub SettledEnds : Type 0
+SettledEnds = (version : Version) (has : Bool) (what : Option Namespace) (list : ℕ → Namespace) (id : ℕ) (d : Disk) (r : Reads) → Leaves d r → EndsAt r version has what (record { last = id; ns = list id }) → EndsBetween version has what list id id (disk_after Settle r d)
+
+-- the files of this folder are certain as they read
+abbrev pub IsSure : Sub → ℕ → State → Type 0
+IsSure sub i s = (n : FileName) → (disk_at s i).file sub n ≡ certain ((s.reads i).file sub n)
+
+-- Those of the folder that serves are so in `current` once it was recovered.
+abbrev pub RecoveredIsSure : Type 0
+RecoveredIsSure = (i : ℕ) (sub : Sub) (old new : State) → serving (disk_at old i) ≡ Some sub → serving (old.reads i) ≡ Some sub → WasRecovered i old new → IsSure sub i old → IsSure Current i new
 
 -- ---- a recovery, or what else keeps the seat
 
@@ -61,6 +79,10 @@ ClearingKeeps = (shared : Shared) (old d : Disk) → EachLeft old (IsKept shared
 -- it is kept, and the floor has left it behind
 abbrev pub StaysBehind : Shared → Disk → Type 0
 StaysBehind shared d = EachLeft d (λ c. IsKept shared c × IsOutranked shared c)
+
+-- What is so as it reads is so once it was settled.
+abbrev pub SettledStaysBehind : Type 0
+SettledStaysBehind = (shared : Shared) (d : Disk) (r : Reads) → Leaves d r → IsKept shared r → IsOutranked shared r → StaysBehind shared (disk_after Settle r d)
 
 -- It stays so while its previous is given up.
 abbrev pub GivingUpKeeps : Type 0
@@ -101,6 +123,10 @@ GivingUpEnds = (version : Version) (has : Bool) (what : Option Namespace) (list 
 abbrev pub PublishingEnds : Type 0
 PublishingEnds = (version : Version) (has : Bool) (what : Option Namespace) (list : ℕ → Namespace) (id : ℕ) (old d : Disk) → IsIn Normal old → EndsBetween version has what list id id old
     → IsRanked version (record { last = id; ns = list id }) old d → EndsBetween version has what list id id d
+
+-- Once it is published, each fair stop leaves the image intact, if what was there before was certain.
+abbrev pub PublishedIsIntact : Type 0
+PublishedIsIntact = (version : Version) (id : ℕ) (ns : Namespace) (i : ℕ) (old new : State) → IsSure Current i old → IsOnlyOf version id ns i old → IsPublished version id ns i old new → EachLeft (disk_at new i) (λ c. IsIntact (folder_at c Current) version id ns)
 
 -- ---- a directory that is tidied
 

@@ -1,5 +1,5 @@
 // What follows from the contracts of the steps on one directory, for the calls that compose them: no call does anything here.
-ghost use Rattle.nn_steps.specs.Steps.{FreshIsKept, MakingKeeps, MadeEnds, RecoveringKeeps, RecoveringLeavesBehind, RecoveringEnds, ClearingKeeps, GivingUpKeeps, ToppingUpKeeps, ToppedUpEnds, GivingUpEnds, TidyingEnds, LoggingEnds, PublishingEnds};
+ghost use Rattle.nn_steps.specs.Steps.{FreshIsKept, MakingKeeps, MadeEnds, SettledEnds, SettledStaysBehind, RecoveredIsSure, RecoveringKeeps, RecoveringLeavesBehind, RecoveringEnds, ClearingKeeps, GivingUpKeeps, ToppingUpKeeps, ToppedUpEnds, GivingUpEnds, TidyingEnds, LoggingEnds, PublishingEnds, PublishedIsIntact};
 
 /// A directory that isn't formatted is kept.
 pub fn a_directory_not_formatted_is_kept()
@@ -14,6 +14,21 @@ pub fn a_directory_in_the_making_is_kept()
 /// A directory that was made ends at its image, with nothing saved.
 pub fn a_made_directory_ends()
     ensures { MadeEnds }
+{}
+
+/// A directory that ends somewhere as it reads ends there once it was settled.
+pub fn a_settled_directory_ends()
+    ensures { SettledEnds }
+{}
+
+/// A directory that is left behind as it reads is so once it was settled.
+pub fn a_settled_directory_stays_behind()
+    ensures { SettledStaysBehind }
+{}
+
+/// What is certain in the folder that serves is certain in `current` once the directory was recovered.
+pub fn a_recovered_directory_is_certain()
+    ensures { RecoveredIsSure }
 {}
 
 /// A kept directory is kept at each moment of a recovery, as one of the run and as a holder if it was one.
@@ -69,4 +84,9 @@ pub fn a_directory_in_tidying_ends()
 /// A directory ends at one of the ids in flight at each moment at which its segments are written to.
 pub fn a_directory_written_to_ends()
     ensures { LoggingEnds }
+{}
+
+/// An image that was published into a `current` that is certain is intact after every fair stop.
+pub fn a_published_image_is_intact()
+    ensures { PublishedIsIntact }
 {}
