@@ -1,0 +1,6 @@
+pub mod OrderLemmas
+pub mod ReplayLemmas
+pub mod FileLemmas
+pub mod QueueLemmas
+pub mod TurnLemmas
+pub mod NewestLemmas

@@ -1,2 +1,6 @@
 pub mod Replaying
+pub mod Segments
+pub mod Queue
+pub mod Turns
+pub mod Newest
 pub mod Loading

@@ -2,6 +2,13 @@
 //! It knows nothing of which folder serves, nor of several directories.
 #![tactic(auto)]
 
+mod chain;
 mod fault;
+mod loading;
+mod newest;
+mod queue;
+mod replaying;
+mod segment;
 
 pub use fault::ChainFault;
+pub use loading::load_dir;
