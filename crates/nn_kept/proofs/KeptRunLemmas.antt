@@ -8,7 +8,7 @@ use Rattle.nn_chain.specs.Fair.{IsFairStop}
 use Rattle.nn_pick.specs.Dirs.{choice}
 use Rattle.nn_pick.specs.Opening.{Book}
 use Rattle.nn_kept.specs.Kept.{Shared}
-use Rattle.nn_kept.specs.Laws.{IsKeptDisk, AllKept, KeptInto, SomeCounts, OpenInto}
+use Rattle.nn_kept.specs.Laws.{IsKeptDisk, AllKept, KeptInto, KeptRuns, SomeCounts, OpenInto}
 use Rattle.nn_kept.proofs.KeptStopLemmas.{kept_stops}
 
 -- a run on one directory keeps the others, and this one if what it makes of it is kept at each count that hasn't fallen
@@ -20,7 +20,7 @@ drop_all : {A : Type 0} (xs : List A) → drop (length xs) xs ≡ []
 drop_all [] = refl
 drop_all (x ∷ xs) = drop_all xs
 
-module _ (window : Moment → List Book) (count : ℕ) (run held : ℕ → Dir → Bool) where
+module _ (window : Moment → List Book) (count : ℕ) (run held : Moment → ℕ → Dir → Bool) where
   found : {told : Type 0} {a b : State} → told → KeptInto window count run held a.now → KeptInto window count run held a.ended → Throughout told a b (KeptInto window count run held)
       → (m : Moment) (contents : ℕ → Reads) → Left b (moment a) contents m → KeptInto window count run held m
   found {told} {a} {b} tells now ended through m contents left = elim (through.each tells (moment a) m (omega arith) left.since) [
@@ -37,7 +37,10 @@ module _ (window : Moment → List Book) (count : ℕ) (run held : ℕ → Dir �
   -- what a fair stop leaves that comes since then: each choice with a directory of the run opens into the window of that moment
   pub kept_left : {told : Type 0} {a b : State} → told → KeptInto window count run held a.now → KeptInto window count run held a.ended → Throughout told a b (KeptInto window count run held)
       → (m : Moment) (contents : ℕ → Reads) → Left b (moment a) contents m → IsFairStop count m contents
-      → (n : ℕ) (numbers : ℕ → ℕ) → ((k : ℕ) → k < n → numbers k < count) → SomeCounts run m n numbers → OpenInto (window m) (SomeCounts held m n numbers) (choice contents n numbers)
+      → (n : ℕ) (numbers : ℕ → ℕ) → ((k : ℕ) → k < n → numbers k < count) → SomeCounts (run m) m n numbers → OpenInto (window m) (SomeCounts (held m) m n numbers) (choice contents n numbers)
   kept_left {told} {a} {b} tells now ended through m contents left fair n numbers bound some =
       let it = found {told = told} {a = a} {b = b} tells now ended through m contents left in
-      kept_stops it.0 (window m) count run held m contents it.1 it.2 left.leaves fair n numbers bound some
+      kept_stops it.0 (window m) count (run m) (held m) m contents it.1 it.2 left.leaves fair n numbers bound some
+
+pub kept_runs : KeptRuns
+kept_runs window count run held old new now ended through m contents left fair n numbers bound some = kept_left window count run held {told = Unit {0}} {a = old} {b = new} tt now ended through m contents left fair n numbers bound some

@@ -1,8 +1,8 @@
 -- What follows from what a run keeps of each directory: of choices of them, and of what a stop leaves.
 use Rattle.std.specs.Prelude.{◌≡◌, ℕ, ◌<◌, Bool, true, List, Contains}
 use Rattle.nn_host.specs.Disk.{Disk, Reads, Leaves}
-use Rattle.nn_host.specs.Moments.{Dir, Moment}
-use Rattle.nn_host.specs.Runs.{EachDir}
+use Rattle.nn_host.specs.Moments.{Dir, Moment, State, Left, moment}
+use Rattle.nn_host.specs.Runs.{EachDir, Throughout}
 use Rattle.nn_marks.specs.declared.version.Version.{Version}
 use Rattle.nn_state.specs.Seat.{saved}
 use Rattle.nn_chain.specs.Folder.{Folder}
@@ -64,12 +64,18 @@ SomeCounts counts m n numbers = (k : ℕ) × (k < n) × (counts (numbers k) (m.d
 abbrev pub IsPartOf : List Book → List Book → Type 0
 IsPartOf some all = (book : Book) → Contains some book → Contains all book
 
--- at this moment, for some shared things whose window is part of the run's, each directory is so
-abbrev pub KeptInto : (Moment → List Book) → ℕ → (ℕ → Dir → Bool) → (ℕ → Dir → Bool) → Moment → Type 0
-KeptInto window count run held m = (shared : Shared) × IsPartOf shared.window (window m) × AllKept shared count run held m
+-- At this moment, for some shared things whose window is part of the run's, each directory is so. Which of them count, as of the run and as holders, is told of the moment: others may do once a start has been said.
+abbrev pub KeptInto : (Moment → List Book) → ℕ → (Moment → ℕ → Dir → Bool) → (Moment → ℕ → Dir → Bool) → Moment → Type 0
+KeptInto window count run held m = (shared : Shared) × IsPartOf shared.window (window m) × AllKept shared count (run m) (held m) m
 
 -- A fair stop at such a moment leaves directories of which every choice with one of the run opens so, into each window that has the shared one.
 abbrev pub KeptStops : Type 0
 KeptStops = (shared : Shared) (window : List Book) (count : ℕ) (run held : ℕ → Dir → Bool) (m : Moment) (contents : ℕ → Reads) → IsPartOf shared.window window
     → AllKept shared count run held m → ((i : ℕ) → Leaves (m.dirs i).disk (contents i)) → IsFairStop count m contents
     → (n : ℕ) (numbers : ℕ → ℕ) → ((k : ℕ) → k < n → numbers k < count) → SomeCounts run m n numbers → OpenInto window (SomeCounts held m n numbers) (choice contents n numbers)
+
+-- So does each fair stop since a run of calls began of which each moment is so.
+abbrev pub KeptRuns : Type 0
+KeptRuns = (window : Moment → List Book) (count : ℕ) (run held : Moment → ℕ → Dir → Bool) (old new : State) → KeptInto window count run held old.now → KeptInto window count run held old.ended → Throughout (Unit {0}) old new (KeptInto window count run held)
+    → (m : Moment) (contents : ℕ → Reads) → Left new (moment old) contents m → IsFairStop count m contents
+    → (n : ℕ) (numbers : ℕ → ℕ) → ((k : ℕ) → k < n → numbers k < count) → SomeCounts (run m) m n numbers → OpenInto (window m) (SomeCounts (held m) m n numbers) (choice contents n numbers)

@@ -1,5 +1,5 @@
 // What follows from the definitions alone, for the proofs of the crates above: no call does anything here.
-ghost use Rattle.nn_kept.specs.Laws.{KeptOpen, ChosenAreHigh, KeptStops};
+ghost use Rattle.nn_kept.specs.Laws.{KeptOpen, ChosenAreHigh, KeptStops, KeptRuns};
 ghost use Rattle.nn_kept.specs.Onward.{CutIsKept, OutrankedIsKept, HigherFloorOutranks, SameSeatIsKept};
 ghost use Rattle.nn_kept.specs.Ends.{SameSeatEnds, OfRunEnds, HeldImageEnds, BetweenIsKept, BetweenIsOutranked, LeftBehindIsKept};
 ghost use Rattle.nn_kept.specs.First.{SettledIsKept, SoundIsKept, SoundRollsBack};
@@ -14,6 +14,12 @@ pub fn kept_directories_open()
 /// sound for a start and opens into the window; where it has a holder, with the saved part kept.
 pub fn kept_stops()
     ensures { KeptStops }
+{}
+
+/// So does a fair stop at any moment since a run of calls began, if at each of them each directory is kept, by the directories
+/// that count as of the run at that moment.
+pub fn kept_runs()
+    ensures { KeptRuns }
 {}
 
 /// A kept directory that the floor has left behind is kept, whatever has become of the window.
