@@ -1,5 +1,5 @@
 -- How the process ends, from the status of the run.
-use Rattle.std.proofs.Common.{◌≡◌, inl, inr, ℕ, List, [], length, refl, ap, subst}
+use Rattle.std.proofs.Common.{◌≡◌, Some, inl, inr, ℕ, List, [], length, refl, ap, subst}
 use Rattle.nn_base.specs.Paths.{Bytes}
 use Rattle.nn_host.specs.Moments.{State}
 use Rattle.nn_files.specs.Untold.{unfailed_state}
@@ -7,9 +7,9 @@ use Rattle.nn_server.specs.declared.status.Status.{Status}
 use Rattle.nn_server.specs.declared.status.Status.TheVariants.{Memory}
 use Rattle.nn_server.specs.Codes.{code_of}
 use Rattle.nn_top.specs.Wanted.{Wanted, States, Format, Dry, dirs_in}
-use Rattle.nn_top.specs.Commands.{Asks, HaveNoReading}
+use Rattle.nn_top.specs.Commands.{reading_of, HaveNoReading}
 use Rattle.nn_top.specs.Did.{Unread, Did}
-use Rattle.nn_top.proofs.LineLemmas.{Asks-unique}
+use Rattle.nn_top.proofs.ReadingLemmas.{one_reading, read_or_not}
 use Rattle.nn_cli.specs.Exit.{CanEndBy, ExitsBy}
 
 -- memory ran out before the run
@@ -39,13 +39,13 @@ counts_alone left faults before after old new Dry status did = record {
 }
 
 -- words with a reading were done
-pub exits_done : {Source : Type 0} (left : Source → Bytes) (faults : Source → ℕ) (before after : Source) (old new : State) (words : List Bytes) (wanted : Wanted) (status : Status) (exit : ℕ) → Asks words wanted
+pub exits_done : {Source : Type 0} (left : Source → Bytes) (faults : Source → ℕ) (before after : Source) (old new : State) (words : List Bytes) (wanted : Wanted) (status : Status) (exit : ℕ) → reading_of words ≡ Some wanted
     → exit ≡ code_of status → faults before ≡ 0 → old ≡ unfailed_state (length (dirs_in wanted)) → Did ⊥ ⊥ left faults wanted before after old new status → ExitsBy words exit
 exits_done left faults before after old new words wanted status exit asks code unfailed opened did = record {
   status = status;
   code = code;
-  read = λ again asks_again. inr (subst (λ (w : Wanted). CanEndBy w status) (Asks-unique words wanted again asks asks_again) ends);
-  unread = λ none. absurd (none wanted asks);
+  read = λ again asks_again. inr (subst (λ (w : Wanted). CanEndBy w status) (one_reading words wanted again asks asks_again) ends);
+  unread = λ none. absurd (read_or_not words wanted asks none);
 }
   where
     ends : CanEndBy wanted status
@@ -61,6 +61,6 @@ pub exits_unread : {old new : State} (words : List Bytes) (status : Status) (exi
 exits_unread {new = new} words status exit none code opened unread = record {
   status = status;
   code = code;
-  read = λ wanted asks. absurd (none wanted asks);
+  read = λ wanted asks. absurd (read_or_not words wanted asks none);
   unread = λ here. inr (new, subst (λ (s : State). Unread ⊥ s new status) opened unread);
 }

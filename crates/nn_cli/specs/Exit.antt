@@ -1,5 +1,5 @@
 -- How the process ends.
-use Rattle.std.specs.Prelude.{◌≡◌, ◌⊎◌, ℕ, List, [], length}
+use Rattle.std.specs.Prelude.{◌≡◌, ◌⊎◌, Some, ℕ, List, [], length}
 use Rattle.nn_base.specs.Paths.{Bytes}
 use Rattle.nn_host.specs.Moments.{State}
 use Rattle.nn_files.specs.Untold.{unfailed_state}
@@ -7,7 +7,7 @@ use Rattle.nn_server.specs.declared.status.Status.{Status}
 use Rattle.nn_server.specs.declared.status.Status.TheVariants.{Memory}
 use Rattle.nn_server.specs.Codes.{code_of}
 use Rattle.nn_top.specs.Wanted.{Wanted, dirs_in}
-use Rattle.nn_top.specs.Commands.{Asks, HaveNoReading}
+use Rattle.nn_top.specs.Commands.{reading_of, HaveNoReading}
 use Rattle.nn_top.specs.Did.{Unread, Did}
 
 -- a run that was asked for this comes to this status over folders and a source that tell nothing and hadn't failed before
@@ -18,5 +18,5 @@ CanEndBy wanted status = (faults : ℕ) × (new : State) × Did ⊥ ⊥ (λ n. [
 pub record ExitsBy (words : List Bytes) (exit : ℕ) : Type 0 where
   pub status : Status
   pub code : exit ≡ code_of status
-  pub read : (wanted : Wanted) → Asks words wanted → (status ≡ Memory) ⊎ CanEndBy wanted status
+  pub read : (wanted : Wanted) → reading_of words ≡ Some wanted → (status ≡ Memory) ⊎ CanEndBy wanted status
   pub unread : HaveNoReading words → (status ≡ Memory) ⊎ ((new : State) × Unread ⊥ (unfailed_state 0) new status)

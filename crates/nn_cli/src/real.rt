@@ -1,9 +1,9 @@
 // Runs over real folders, the real input and the real output.
-ghost use Rattle.std.specs.Prelude.{◌≡◌, ◌≤◌, length};
+ghost use Rattle.std.specs.Prelude.{◌≡◌, ◌≤◌, Some, length};
 ghost use Rattle.nn_server.specs.Codes.{code_of};
 ghost use Rattle.nn_top.specs.Words.{texts};
 ghost use Rattle.nn_top.specs.Wanted.{dirs_in};
-ghost use Rattle.nn_top.specs.Commands.{Asks, HaveNoReading};
+ghost use Rattle.nn_top.specs.Commands.{reading_of, HaveNoReading};
 ghost use Rattle.nn_cli.specs.Exit.{ExitsBy};
 
 use nn_base::NoMemory;
@@ -36,7 +36,7 @@ fn run_over<R: Files + Print + Input + Drop>(
     words: &[String],
     dirs: Vec<String>,
 ) -> u8
-    requires { (wanted : _) × Asks (texts words.now) wanted × (texts dirs.items ≡ dirs_in wanted) }
+    requires { (wanted : _) × (reading_of (texts words.now) ≡ Some wanted) × (texts dirs.items ≡ dirs_in wanted) }
     ensures { ExitsBy (texts words.now) result }
 {
     let mut source = StdSource::new(&rt);

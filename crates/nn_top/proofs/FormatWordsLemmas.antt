@@ -1,268 +1,228 @@
--- Lemmas on the options of `format`.
-use Rattle.std.proofs.Common.{◌≡◌, ◌≢◌, ◌≤◌, Bool, true, false, ◌==◌, ◌||◌, List, [], ◌∷◌, ◌++◌, length, codes, All, IsTrue, Option, Some, None, Bor, IfSome, IfNone, inl, inr, refl, sym, ap, ◌∙◌, subst, append_assoc, length-append, arith}
+-- Lemmas on the words of `format`.
+use Rattle.std.proofs.Common.{◌≡◌, ◌≢◌, ◌≤◌, Bool, true, false, ◌&&◌, List, [], ◌∷◌, ◌++◌, length, map, codes, Option, Some, None, Bor, IfSome, IfNone, MatchOption, option_and_then, if◌then◌else◌, inl, inr, ⊎_elim, refl, sym, ap, ◌∙◌, subst, append_assoc, arith}
 use Rattle.std.specs.Option.{is_some}
-use Rattle.std.proofs.lemmas.Bool.{both_ways, false≢true, eqb-false, or_parts}
+use Rattle.std.specs.Str.{bytes_eq}
+use Rattle.std.proofs.lemmas.Bool.{true≢false, false≢true, or_cases, and_right}
+use Rattle.std.proofs.lemmas.Grind.{flat_map-append}
 use Rattle.std.proofs.lemmas.List.{append-nil}
-use Rattle.std.proofs.lemmas.List.Elements.{All-cons, All-head, All-nil, All-tail}
-use Rattle.nn_top.specs.Words.{Word, is_plain, texts, AllPlain}
-use Rattle.nn_top.specs.Options.{Given, joined, apart, bare, words_of, spelling, value_for, values_of, IsTaken}
-use Rattle.nn_top.specs.Commands.{FormatTakes}
-use Rattle.nn_top.specs.FormatWords.{BeginWith, BeginWithNone, BeginUnplain, IsEnd, given_value, ReadOptions, GivenTwice, SpellBack}
+use Rattle.std.proofs.lemmas.Slice.Eq.{bytes_eq-Decides}
 use Rattle.nn_top.specs.declared.words.format.Line.{Line}
+use Rattle.nn_top.specs.Words.{Word, texts, is_among, are_dirs}
+use Rattle.nn_top.specs.Parts.{Part, Given, Dir, Mark, parts_of, is_dir, is_line, dirs_of, value_in, values_of}
+use Rattle.nn_top.specs.Wanted.{Wanted}
+use Rattle.nn_top.specs.Commands.{once, cluster_in, format_for, format_in, format_options}
+use Rattle.nn_top.specs.FormatWords.{BeginWith, IsEnd, is_given, begins, given_value, parts_left, Adds, GivenTwice, ReadOptions, ReadLine, IsUnread}
+use Rattle.nn_top.proofs.PartsLemmas.{First, a_dir, a_mark, an_option, a_stray, first_of, skipped, skipped_line, named, line_of_dirs, marked_line, ended, stray_first, unended_line}
 
-abbrev pub Taken : Given → Type 0
-Taken given = IsTaken FormatTakes given
+-- ---- the option that stands first
 
--- whether a word has `=`
-abbrev has_equals : Word → Bool
-has_equals [] = false
-has_equals (first ∷ later) = (first == 61) || has_equals later
+pub begins_cluster : (words : List Word) (value : Word) (rest : List Word) → BeginWith words (codes "--cluster") value rest → parts_of format_options words ≡ Given (codes "--cluster") value ∷ parts_of format_options rest
+begins_cluster words value [] (inl is) = rw is refl
+begins_cluster words value (next ∷ rest) (inl is) = rw is refl
+begins_cluster words value rest (inr (is, apart)) = rw is (rw apart refl)
 
-no_equals : (option : Word) (valued : Bool) → FormatTakes option valued → has_equals option ≡ false
-no_equals option valued (inl is, with_value) = ap has_equals is
-no_equals option valued (inr is, with_value) = ap has_equals is
-
--- a word splits at its first `=` alone
-equals_once : (option other value value' : Word) → has_equals option ≡ false → has_equals other ≡ false → (option ++ codes "=") ++ value ≡ (other ++ codes "=") ++ value' → (option ≡ other) × (value ≡ value')
-equals_once [] [] value value' none none' same = (refl, cc)
-equals_once [] (first ∷ other) value value' none none' same = let is : first ≡ 61 = cc in absurd (eqb-false first 61 ((or_parts (first == 61) (has_equals other) none').0) is)
-equals_once (first ∷ option) [] value value' none none' same = let is : first ≡ 61 = cc in absurd (eqb-false first 61 ((or_parts (first == 61) (has_equals option) none).0) is)
-equals_once (first ∷ option) (first' ∷ other) value value' none none' same =
-    let below = equals_once option other value value' ((or_parts (first == 61) (has_equals option) none).1) ((or_parts (first' == 61) (has_equals other) none').1) (cc) in
-    let one = below.0 in (cc, below.1)
-
-equals_in : (option other value : Word) → has_equals other ≡ false → (option ++ codes "=") ++ value ≡ other → ⊥
-equals_in [] [] value none same = cc
-equals_in [] (first ∷ other) value none same = let is : first ≡ 61 = cc in eqb-false first 61 ((or_parts (first == 61) (has_equals other) none).0) is
-equals_in (first ∷ option) [] value none same = cc
-equals_in (first ∷ option) (first' ∷ other) value none same = equals_in option other value ((or_parts (first' == 61) (has_equals other) none).1) (cc)
-
-no_bare : (option : Word) → FormatTakes option false → ⊥
-no_bare option takes = false≢true takes.1
-
--- words begin with one option at most
-one_option : (given other : Given) (rest rest' : List Word) → Taken given → Taken other → words_of given ++ rest ≡ words_of other ++ rest' → (given ≡ other) × (rest ≡ rest')
-one_option (joined option value) (joined option' value') rest rest' taken taken' same =
-    let both = equals_once option option' value value' (no_equals option true taken) (no_equals option' true taken') (cc) in
-    let one = both.0 in let two = both.1 in (cc, cc)
-one_option (joined option value) (apart option' value') rest rest' taken taken' same = absurd (equals_in option option' value (no_equals option' true taken'.0) (cc))
-one_option (apart option value) (joined option' value') rest rest' taken taken' same = absurd (equals_in option' option value' (no_equals option true taken.0) (cc))
-one_option (apart option value) (apart option' value') rest rest' taken taken' same = (cc, cc)
-one_option (bare option) other rest rest' taken taken' same = absurd (no_bare option taken)
-one_option given (bare option') rest rest' taken taken' same = absurd (no_bare option' taken')
-
--- options that words spell begin with the one that the words begin with
-pub record More (given : Given) (rest : List Word) (options : List Given) (end : List Word) : Type 0 where
-  pub more : List Given
-  pub begins : options ≡ given ∷ more
-  pub taken : All Taken more
-  pub spelled : rest ≡ spelling more ++ end
-
-pub More-from : (given : Given) (words rest : List Word) (options : List Given) (end : List Word) → Taken given → words ≡ words_of given ++ rest → All Taken options → words ≡ spelling options ++ end → BeginWithNone FormatTakes end → More given rest options end
-More-from given words rest [] end taken begin all same none = absurd (none given rest taken (sym same ∙ begin))
-More-from given words rest (first ∷ more) end taken begin all same none =
-    let longer : words_of given ++ rest ≡ words_of first ++ (spelling more ++ end) = sym begin ∙ (same ∙ append_assoc (words_of first) (spelling more) end) in
-    let both = one_option given first rest (spelling more ++ end) taken (All-head Taken first more all) longer in
-    record { more = more; begins = ap (λ g. g ∷ more) (sym both.0); taken = All-tail Taken first more all; spelled = both.1 }
-
--- words spell one list of options at most, up to where no further one stands
-pub one_spelling : (options others : List Given) (words end end' : List Word) → All Taken options → All Taken others → words ≡ spelling options ++ end → words ≡ spelling others ++ end' → BeginWithNone FormatTakes end → BeginWithNone FormatTakes end' → (options ≡ others) × (end ≡ end')
-one_spelling [] [] words end end' all all' same same' none none' = (refl, cc)
-one_spelling [] (first ∷ others) words end end' all all' same same' none none' =
-    absurd (none first (spelling others ++ end') (All-head Taken first others all') (sym same ∙ (same' ∙ append_assoc (words_of first) (spelling others) end')))
-one_spelling (first ∷ options) others words end end' all all' same same' none none' =
-    let more = More-from first words (spelling options ++ end) others end' (All-head Taken first options all) (same ∙ append_assoc (words_of first) (spelling options) end) all' same' none' in
-    let below = one_spelling options more.more (spelling options ++ end) end end' (All-tail Taken first options all) more.taken refl more.spelled none none' in
-    (ap (λ os. first ∷ os) below.0 ∙ sym more.begins, below.1)
-
--- an option that the words begin with, as it is given
-pub record Gives (words : List Word) (option value : Word) (rest : List Word) : Type 0 where
-  pub given : Given
-  pub taken : Taken given
-  pub begins : words ≡ words_of given ++ rest
-  pub cluster : value_for (codes "--cluster") given ≡ value_for (codes "--cluster") (joined option value)
-  pub namespace : value_for (codes "--namespace") given ≡ value_for (codes "--namespace") (joined option value)
-
-pub Gives-from : (words : List Word) (option value : Word) (rest : List Word) → FormatTakes option true → BeginWith words option value rest → Gives words option value rest
-Gives-from words option value rest takes (inl begins) = record { given = joined option value; taken = takes; begins = begins; cluster = refl; namespace = refl }
-Gives-from words option value rest takes (inr (begins, alone)) = record { given = apart option value; taken = (takes, alone); begins = begins; cluster = refl; namespace = refl }
+pub begins_namespace : (words : List Word) (value : Word) (rest : List Word) → BeginWith words (codes "--namespace") value rest → parts_of format_options words ≡ Given (codes "--namespace") value ∷ parts_of format_options rest
+begins_namespace words value [] (inl is) = rw is refl
+begins_namespace words value (next ∷ rest) (inl is) = rw is refl
+begins_namespace words value rest (inr (is, apart)) = rw is (rw apart refl)
 
 -- where neither option stands first, none does
-pub none_first : (words : List Word) → ((value : Word) (rest : List Word) → BeginWith words (codes "--cluster") value rest → ⊥) → ((value : Word) (rest : List Word) → BeginWith words (codes "--namespace") value rest → ⊥) → BeginWithNone FormatTakes words
-none_first words no_cluster no_namespace = λ given rest taken begins. none given rest taken begins
+pub none_first : (words : List Word) → ((value : Word) (rest : List Word) → BeginWith words (codes "--cluster") value rest → ⊥) → ((value : Word) (rest : List Word) → BeginWith words (codes "--namespace") value rest → ⊥) → begins is_given (parts_of format_options words) ≡ false
+none_first [] cluster namespace = refl
+none_first (word ∷ words) cluster namespace = none (first_of format_options word words)
   where
-    none : (given : Given) (rest : List Word) → Taken given → words ≡ words_of given ++ rest → ⊥
-    none (joined option value) rest (inl is, valued) begins = no_cluster value rest (inl (begins ∙ ap (λ o. ((o ++ codes "=") ++ value) ∷ rest) is))
-    none (joined option value) rest (inr is, valued) begins = no_namespace value rest (inl (begins ∙ ap (λ o. ((o ++ codes "=") ++ value) ∷ rest) is))
-    none (apart option value) rest ((inl is, valued), alone) begins = no_cluster value rest (inr (begins ∙ ap (λ o. o ∷ value ∷ rest) is, alone))
-    none (apart option value) rest ((inr is, valued), alone) begins = no_namespace value rest (inr (begins ∙ ap (λ o. o ∷ value ∷ rest) is, alone))
-    none (bare option) rest taken begins = no_bare option taken
+    none : First format_options word words → begins is_given (parts_of format_options (word ∷ words)) ≡ false
+    none (a_dir plain e) = rw e refl
+    none (a_mark is e) = rw e refl
+    none (a_stray e) = rw e refl
+    none (an_option name value rest among begin e) = ⊎_elim
+        (λ (y : bytes_eq name (codes "--cluster") ≡ true). let is : name ≡ codes "--cluster" = (bytes_eq-Decides name (codes "--cluster")).0 y in absurd (cluster value rest (subst (λ n. BeginWith (word ∷ words) n value rest) is begin)))
+        (λ (later : is_among (codes "--namespace" ∷ []) name ≡ true). ⊎_elim
+        (λ (y : bytes_eq name (codes "--namespace") ≡ true). let is : name ≡ codes "--namespace" = (bytes_eq-Decides name (codes "--namespace")).0 y in absurd (namespace value rest (subst (λ n. BeginWith (word ∷ words) n value rest) is begin)))
+        (λ (no : false ≡ true). absurd (false≢true no))
+        (or_cases (bytes_eq name (codes "--namespace")) false later))
+        (or_cases (bytes_eq name (codes "--cluster")) (is_among (codes "--namespace" ∷ []) name) among)
 
--- one option is read
-pub record Next (given : Given) (old new : Line) : Type 0 where
-  pub taken : Taken given
-  pub words : texts old.rest.now ≡ words_of given ++ texts new.rest.now
-  pub cluster : given_value new.cluster ≡ given_value old.cluster ++ value_for (codes "--cluster") given
-  pub namespace : given_value new.namespace ≡ given_value old.namespace ++ value_for (codes "--namespace") given
+-- ---- reading options
 
 not_given : (value : Option (Bor Word)) → is_some value ≡ false → given_value value ≡ []
 not_given None none = refl
-not_given (Some value) none = cc
+not_given (Some value) none = absurd (true≢false none)
 
-length-given : (value : Option (Bor Word)) → is_some value ≡ true → length (given_value value) ≡ 1
-length-given None some = cc
-length-given (Some value) some = refl
+-- an option is read that had no value
+pub record Next (name value : Word) (old new : Line) : Type 0 where
+  pub parts : parts_left old ≡ Given name value ∷ parts_left new
+  pub added : Adds (Given name value ∷ []) old new
 
-pub Next-cluster : (old new : Line) (value : Bor Word) → is_some old.cluster ≡ false → new.cluster ≡ Some value → new.namespace ≡ old.namespace → BeginWith (texts old.rest.now) (codes "--cluster") value.now (texts new.rest.now) → (given : Given) × Next given old new
-Next-cluster old new value none cluster namespace give =
-    let gives = Gives-from (texts old.rest.now) (codes "--cluster") value.now (texts new.rest.now) (inl refl, refl) give in (
-      gives.given,
-      record {
-        taken = gives.taken;
-        words = gives.begins;
-        cluster = ap given_value cluster ∙ (sym gives.cluster ∙ ap (λ vs. vs ++ value_for (codes "--cluster") gives.given) (sym (not_given old.cluster none)));
-        namespace = ap given_value namespace ∙ (sym (append-nil (given_value old.namespace)) ∙ ap (λ vs. given_value old.namespace ++ vs) (sym gives.namespace));
-      },
-    )
+pub next_cluster : (old new : Line) (value : Bor Word) → is_some old.cluster ≡ false → new.cluster ≡ Some value → new.namespace ≡ old.namespace → BeginWith (texts old.rest.now) (codes "--cluster") value.now (texts new.rest.now) → Next (codes "--cluster") value.now old new
+next_cluster old new value none cluster namespace begin = record {
+  parts = begins_cluster (texts old.rest.now) value.now (texts new.rest.now) begin;
+  added = record {
+    cluster = ap given_value cluster ∙ ap (λ vs. vs ++ value.now ∷ []) (sym (not_given old.cluster none));
+    namespace = ap given_value namespace ∙ sym (append-nil (given_value old.namespace));
+  };
+}
 
-pub Next-namespace : (old new : Line) (value : Bor Word) → is_some old.namespace ≡ false → new.cluster ≡ old.cluster → new.namespace ≡ Some value → BeginWith (texts old.rest.now) (codes "--namespace") value.now (texts new.rest.now) → (given : Given) × Next given old new
-Next-namespace old new value none cluster namespace give =
-    let gives = Gives-from (texts old.rest.now) (codes "--namespace") value.now (texts new.rest.now) (inr refl, refl) give in (
-      gives.given,
-      record {
-        taken = gives.taken;
-        words = gives.begins;
-        cluster = ap given_value cluster ∙ (sym (append-nil (given_value old.cluster)) ∙ ap (λ vs. given_value old.cluster ++ vs) (sym gives.cluster));
-        namespace = ap given_value namespace ∙ (sym gives.namespace ∙ ap (λ vs. vs ++ value_for (codes "--namespace") gives.given) (sym (not_given old.namespace none)));
-      },
-    )
+pub next_namespace : (old new : Line) (value : Bor Word) → is_some old.namespace ≡ false → new.cluster ≡ old.cluster → new.namespace ≡ Some value → BeginWith (texts old.rest.now) (codes "--namespace") value.now (texts new.rest.now) → Next (codes "--namespace") value.now old new
+next_namespace old new value none cluster namespace begin = record {
+  parts = begins_namespace (texts old.rest.now) value.now (texts new.rest.now) begin;
+  added = record {
+    cluster = ap given_value cluster ∙ sym (append-nil (given_value old.cluster));
+    namespace = ap given_value namespace ∙ ap (λ vs. vs ++ value.now ∷ []) (sym (not_given old.namespace none));
+  };
+}
 
-pub read_none : (line : Line) → BeginWithNone FormatTakes (texts line.rest.now) → ReadOptions [] line line
+-- values of some parts, and then of those behind them
+added_values : (option : Word) (front back : List Part) (before middle after : List Word) → middle ≡ before ++ values_of option front → after ≡ middle ++ values_of option back → after ≡ before ++ values_of option (front ++ back)
+added_values option front back before middle after one two =
+    two ∙ (ap (λ vs. vs ++ values_of option back) one ∙ (append_assoc before (values_of option front) (values_of option back) ∙ ap (λ vs. before ++ vs) (sym (flat_map-append (value_in option) front back))))
+
+adds_on : (front back : List Part) (old middle new : Line) → Adds front old middle → Adds back middle new → Adds (front ++ back) old new
+adds_on front back old middle new one two = record {
+  cluster = added_values (codes "--cluster") front back (given_value old.cluster) (given_value middle.cluster) (given_value new.cluster) one.cluster two.cluster;
+  namespace = added_values (codes "--namespace") front back (given_value old.namespace) (given_value middle.namespace) (given_value new.namespace) one.namespace two.namespace;
+}
+
+-- the same where the values of those behind are two
+twice_on : (front back : List Part) (old middle : Line) → Adds front old middle → GivenTwice middle back → GivenTwice old (front ++ back)
+twice_on front back old middle one (inl twice) =
+    inl (subst (λ vs. 2 ≤ length vs) (added_values (codes "--cluster") front back (given_value old.cluster) (given_value middle.cluster) (given_value middle.cluster ++ values_of (codes "--cluster") back) one.cluster refl) twice)
+twice_on front back old middle one (inr twice) =
+    inr (subst (λ vs. 2 ≤ length vs) (added_values (codes "--namespace") front back (given_value old.namespace) (given_value middle.namespace) (given_value middle.namespace ++ values_of (codes "--namespace") back) one.namespace refl) twice)
+
+pub read_none : (line : Line) → begins is_given (parts_left line) ≡ false → ReadOptions line line
 read_none line none = record {
-  taken = All-nil Taken;
-  words = refl;
+  given = [];
+  all = refl;
+  parts = refl;
   ended = none;
   added = record { cluster = sym (append-nil (given_value line.cluster)); namespace = sym (append-nil (given_value line.namespace)) };
 }
 
-joined_values : (before first later all middle : List Word) → middle ≡ before ++ first → all ≡ middle ++ later → all ≡ before ++ (first ++ later)
-joined_values before first later all middle one two = two ∙ (ap (λ vs. vs ++ later) one ∙ append_assoc before first later)
-
-read_more : (given : Given) (options : List Given) (old middle new : Line) → Next given old middle → ReadOptions options middle new → ReadOptions (given ∷ options) old new
-read_more given options old middle new next read = record {
-  taken = All-cons Taken given options next.taken read.taken;
-  words = next.words ∙ (ap (λ ws. words_of given ++ ws) read.words ∙ sym (append_assoc (words_of given) (spelling options) (texts new.rest.now)));
+pub some_more : (found : Option Line) (name value : Word) (old middle : Line) → Next name value old middle → IfSome found (ReadOptions middle) → IfSome found (ReadOptions old)
+some_more None name value old middle next some = tt
+some_more (Some new) name value old middle next read = record {
+  given = Given name value ∷ read.given;
+  all = read.all;
+  parts = next.parts ∙ ap (λ ps. Given name value ∷ ps) read.parts;
   ended = read.ended;
-  added = record {
-    cluster = joined_values (given_value old.cluster) (value_for (codes "--cluster") given) (values_of (codes "--cluster") options) (given_value new.cluster) (given_value middle.cluster) next.cluster read.added.cluster;
-    namespace = joined_values (given_value old.namespace) (value_for (codes "--namespace") given) (values_of (codes "--namespace") options) (given_value new.namespace) (given_value middle.namespace) next.namespace read.added.namespace;
-  };
+  added = adds_on (Given name value ∷ []) read.given old middle new next.added read.added;
 }
 
-pub some_more : (found : Option Line) (old middle : Line) → (given : Given) × Next given old middle → IfSome found (λ new. (options : List Given) × ReadOptions options middle new) → IfSome found (λ new. (options : List Given) × ReadOptions options old new)
-some_more None old middle next some = tt
-some_more (Some new) old middle (given, next) (options, read) = (given ∷ options, read_more given options old middle new next read)
-
--- each way to go on gives an option a second time
-abbrev pub NoWay : Line → Type 0
-NoWay line = (options : List Given) (end : List Word) → All Taken options → texts line.rest.now ≡ spelling options ++ end → BeginWithNone FormatTakes end → GivenTwice line options
-
-twice_more : (given : Given) (options : List Given) (old middle : Line) → Next given old middle → GivenTwice middle options → GivenTwice old (given ∷ options)
-twice_more given options old middle next (inl twice) =
-    inl (subst (λ vs. 2 ≤ length vs) (joined_values (given_value old.cluster) (value_for (codes "--cluster") given) (values_of (codes "--cluster") options) (given_value middle.cluster ++ values_of (codes "--cluster") options) (given_value middle.cluster) next.cluster refl) twice)
-twice_more given options old middle next (inr twice) =
-    inr (subst (λ vs. 2 ≤ length vs) (joined_values (given_value old.namespace) (value_for (codes "--namespace") given) (values_of (codes "--namespace") options) (given_value middle.namespace ++ values_of (codes "--namespace") options) (given_value middle.namespace) next.namespace refl) twice)
-
-pub none_more : (found : Option Line) (old middle : Line) → (given : Given) × Next given old middle → IfNone found (NoWay middle) → IfNone found (NoWay old)
-none_more (Some new) old middle next none = tt
-none_more None old middle (given, next) none = λ options end all same ended.
-    let more = More-from given (texts old.rest.now) (texts middle.rest.now) options end next.taken next.words all same ended in
-    subst (λ os. GivenTwice old os) (sym more.begins) (twice_more given more.more old middle next (none more.more end more.taken more.spelled ended))
-
-two : (before : List Word) (value : Word) (first later : List Word) → length before ≡ 1 → first ≡ value ∷ [] → 2 ≤ length (before ++ (first ++ later))
-two before value first later one is =
-    let same : before ++ (first ++ later) ≡ before ++ (value ∷ later) = ap (λ vs. before ++ (vs ++ later)) is in
-    omega (arith, ap length same, length-append before (value ∷ later))
+pub none_more : (found : Option Line) (name value : Word) (old middle : Line) → Next name value old middle → IfNone found (GivenTwice middle (parts_left middle)) → IfNone found (GivenTwice old (parts_left old))
+none_more (Some new) name value old middle next none = tt
+none_more None name value old middle next none =
+    subst (λ ps. GivenTwice old ps) (sym next.parts) (twice_on (Given name value ∷ []) (parts_left middle) old middle next.added none)
 
 -- an option that has its value already
-pub cluster_twice : (line : Line) (value : Word) (rest : List Word) → is_some line.cluster ≡ true → BeginWith (texts line.rest.now) (codes "--cluster") value rest → NoWay line
-cluster_twice line value rest some give = λ options end all same ended.
-    let gives = Gives-from (texts line.rest.now) (codes "--cluster") value rest (inl refl, refl) give in
-    let more = More-from gives.given (texts line.rest.now) rest options end gives.taken gives.begins all same ended in
-    inl (subst (λ os. 2 ≤ length (given_value line.cluster ++ values_of (codes "--cluster") os)) (sym more.begins)
-    (two (given_value line.cluster) value (value_for (codes "--cluster") gives.given) (values_of (codes "--cluster") more.more) (length-given line.cluster some) gives.cluster))
+two : (given : Option (Bor Word)) (value : Word) (values : List Word) → is_some given ≡ true → 2 ≤ length (given_value given ++ (value ∷ values))
+two None value values some = absurd (false≢true some)
+two (Some first) value values some = omega arith
 
-pub namespace_twice : (line : Line) (value : Word) (rest : List Word) → is_some line.namespace ≡ true → BeginWith (texts line.rest.now) (codes "--namespace") value rest → NoWay line
-namespace_twice line value rest some give = λ options end all same ended.
-    let gives = Gives-from (texts line.rest.now) (codes "--namespace") value rest (inr refl, refl) give in
-    let more = More-from gives.given (texts line.rest.now) rest options end gives.taken gives.begins all same ended in
-    inr (subst (λ os. 2 ≤ length (given_value line.namespace ++ values_of (codes "--namespace") os)) (sym more.begins)
-    (two (given_value line.namespace) value (value_for (codes "--namespace") gives.given) (values_of (codes "--namespace") more.more) (length-given line.namespace some) gives.namespace))
+pub cluster_twice : (line : Line) (value : Word) (rest : List Word) → is_some line.cluster ≡ true → BeginWith (texts line.rest.now) (codes "--cluster") value rest → GivenTwice line (parts_left line)
+cluster_twice line value rest some begin = rw (begins_cluster (texts line.rest.now) value rest begin) (inl (two line.cluster value (values_of (codes "--cluster") (parts_of format_options rest)) some))
 
-unplain_option : (option : Word) (valued : Bool) → FormatTakes option valued → is_plain option ≡ false
-unplain_option option valued (inl is, with_value) = ap is_plain is
-unplain_option option valued (inr is, with_value) = ap is_plain is
+pub namespace_twice : (line : Line) (value : Word) (rest : List Word) → is_some line.namespace ≡ true → BeginWith (texts line.rest.now) (codes "--namespace") value rest → GivenTwice line (parts_left line)
+namespace_twice line value rest some begin = rw (begins_namespace (texts line.rest.now) value rest begin) (inr (two line.namespace value (values_of (codes "--namespace") (parts_of format_options rest)) some))
 
-unplain_joined : (option value : Word) (valued : Bool) → FormatTakes option valued → is_plain ((option ++ codes "=") ++ value) ≡ false
-unplain_joined option value valued (inl is, with_value) = ap (λ o. is_plain ((o ++ codes "=") ++ value)) is
-unplain_joined option value valued (inr is, with_value) = ap (λ o. is_plain ((o ++ codes "=") ++ value)) is
+-- ---- a whole line
 
-unplain_given : (given : Given) (rest : List Word) → Taken given → BeginUnplain (words_of given ++ rest)
-unplain_given (joined option value) rest taken = λ first later begins. let is : (option ++ codes "=") ++ value ≡ first = cc in ap is_plain (sym is) ∙ unplain_joined option value true taken
-unplain_given (apart option value) rest taken = λ first later begins. let is : option ≡ first = cc in ap is_plain (sym is) ∙ unplain_option option true taken.0
-unplain_given (bare option) rest taken = absurd (no_bare option taken)
+-- behind options that were read
+unread_on : (old middle : Line) → ReadOptions old middle → IsUnread middle → IsUnread old
+unread_on old middle read (inl broken) = inl (ap is_line read.parts ∙ (skipped_line read.given (parts_left middle) read.all ∙ broken))
+unread_on old middle read (inr (inl none)) = inr (inl (ap dirs_of read.parts ∙ ((skipped read.given (parts_left middle) read.all).dirs ∙ none)))
+unread_on old middle read (inr (inr twice)) = inr (inr (subst (λ ps. GivenTwice old ps) (sym read.parts) (twice_on read.given (parts_left middle) old middle read.added twice)))
 
--- directories before `--` end where an option or the end begins
-pub unplain_back : (back : List Given) (end : List Word) → All Taken back → IsEnd end → BeginUnplain (spelling back ++ end)
-unplain_back [] end taken (inl none) = λ first later begins. cc
-unplain_back [] end taken (inr mark) = λ first later begins. let is : codes "--" ≡ first = cc in ap is_plain (sym is)
-unplain_back (given ∷ back) end taken ends = λ first later begins.
-    unplain_given given (spelling back ++ end) (All-head Taken given back taken) first later (sym (append_assoc (words_of given) (spelling back) end) ∙ begins)
+pub read_on : (old middle new : Line) (dirs : List Word) → ReadOptions old middle → ReadLine middle new dirs → ReadLine old new dirs
+read_on old middle new dirs read line = record {
+  whole = ap is_line read.parts ∙ (skipped_line read.given (parts_left middle) read.all ∙ line.whole);
+  dirs = ap dirs_of read.parts ∙ ((skipped read.given (parts_left middle) read.all).dirs ∙ line.dirs);
+  added = subst (λ ps. Adds ps old new) (sym read.parts) (adds_on read.given (parts_left middle) old middle new read.added line.added);
+}
 
--- no option stands at the end, nor where `--` or a plain word does
-none_at : (first : Word) (later : List Word) → ((option : Word) (valued : Bool) → FormatTakes option valued → first ≢ option) → ((option value : Word) (valued : Bool) → FormatTakes option valued → first ≢ (option ++ codes "=") ++ value) → BeginWithNone FormatTakes (first ∷ later)
-none_at first later alone joint = λ given rest taken begins. none given rest taken begins
+pub line_on : {P : Type 0} (found : Option P) (line_in : P → Line) (dirs_in : P → List Word) (old middle : Line) → ReadOptions old middle → MatchOption found (IsUnread middle) (λ f. ReadLine middle (line_in f) (dirs_in f)) → MatchOption found (IsUnread old) (λ f. ReadLine old (line_in f) (dirs_in f))
+line_on None line_in dirs_in old middle read unread = unread_on old middle read unread
+line_on (Some f) line_in dirs_in old middle read line = read_on old middle (line_in f) (dirs_in f) read line
+
+-- `--` next
+no_values : (option : Word) (dirs : List Word) → values_of option (map Dir dirs) ≡ []
+no_values option dirs = ap (values_of option) (sym (append-nil (map Dir dirs))) ∙ (named dirs []).values option
+
+pub marked : (line : Line) (dirs : List Word) → parts_left line ≡ Mark ∷ map Dir dirs → ReadLine line line dirs
+marked line dirs is = record {
+  whole = ap is_line is ∙ (marked_line dirs).0;
+  dirs = ap dirs_of is ∙ (marked_line dirs).1;
+  added = rw is (record {
+    cluster = sym (ap (λ vs. given_value line.cluster ++ vs) (no_values (codes "--cluster") dirs) ∙ append-nil (given_value line.cluster));
+    namespace = sym (ap (λ vs. given_value line.namespace ++ vs) (no_values (codes "--namespace") dirs) ∙ append-nil (given_value line.namespace));
+  });
+}
+
+-- directories next, with options and the end behind them
+values_behind : (option : Word) (dirs words : List Word) (given : List Part) → IsEnd words → values_of option (map Dir dirs ++ (given ++ parts_of format_options words)) ≡ values_of option given
+values_behind option dirs words given end =
+    (named dirs (given ++ parts_of format_options words)).values option
+    ∙ (flat_map-append (value_in option) given (parts_of format_options words) ∙ (ap (λ vs. values_of option given ++ vs) ((ended format_options words end).2 option) ∙ append-nil (values_of option given)))
+
+pub plain_read : (line middle new : Line) (dirs : List Word) → parts_left line ≡ map Dir dirs ++ parts_left middle → middle.cluster ≡ line.cluster → middle.namespace ≡ line.namespace → ReadOptions middle new → IsEnd (texts new.rest.now) → ReadLine line new dirs
+plain_read line middle new dirs parts cluster namespace read end =
+    let is : parts_left line ≡ map Dir dirs ++ (read.given ++ parts_left new) = parts ∙ ap (λ ps. map Dir dirs ++ ps) read.parts in
+    let s = skipped read.given (parts_left new) read.all in
+    let e = ended format_options (texts new.rest.now) end in
+    let whole = line_of_dirs dirs (read.given ++ parts_left new) (s.known ∙ e.0) (s.none ∙ e.1) in
+    record {
+      whole = ap is_line is ∙ whole.0;
+      dirs = ap dirs_of is ∙ whole.1;
+      added = record {
+        cluster = read.added.cluster ∙ (ap (λ v. given_value v ++ values_of (codes "--cluster") read.given) cluster ∙ ap (λ vs. given_value line.cluster ++ vs) (sym (ap (values_of (codes "--cluster")) is ∙ values_behind (codes "--cluster") dirs (texts new.rest.now) read.given end)));
+        namespace = read.added.namespace ∙ (ap (λ v. given_value v ++ values_of (codes "--namespace") read.given) namespace ∙ ap (λ vs. given_value line.namespace ++ vs) (sym (ap (values_of (codes "--namespace")) is ∙ values_behind (codes "--namespace") dirs (texts new.rest.now) read.given end)));
+      };
+    }
+
+pub plain_twice : (line middle : Line) (dirs : List Word) → parts_left line ≡ map Dir dirs ++ parts_left middle → middle.cluster ≡ line.cluster → middle.namespace ≡ line.namespace → GivenTwice middle (parts_left middle) → GivenTwice line (parts_left line)
+plain_twice line middle dirs parts cluster namespace (inl twice) =
+    inl (subst (λ vs. 2 ≤ length vs) (ap (λ v. given_value v ++ values_of (codes "--cluster") (parts_left middle)) cluster ∙ ap (λ vs. given_value line.cluster ++ vs) (sym (ap (values_of (codes "--cluster")) parts ∙ (named dirs (parts_left middle)).values (codes "--cluster")))) twice)
+plain_twice line middle dirs parts cluster namespace (inr twice) =
+    inr (subst (λ vs. 2 ≤ length vs) (ap (λ v. given_value v ++ values_of (codes "--namespace") (parts_left middle)) namespace ∙ ap (λ vs. given_value line.namespace ++ vs) (sym (ap (values_of (codes "--namespace")) parts ∙ (named dirs (parts_left middle)).values (codes "--namespace")))) twice)
+
+pub plain_unended : (line middle new : Line) (dirs : List Word) → dirs ≢ [] → parts_left line ≡ map Dir dirs ++ parts_left middle → begins is_dir (parts_left middle) ≡ false → ReadOptions middle new → (IsEnd (texts new.rest.now) → ⊥) → is_line (parts_left line) ≡ false
+plain_unended line middle new [] some parts first read more = absurd (some refl)
+plain_unended line middle new (dir ∷ dirs) some parts first read more =
+    ap is_line (parts ∙ ap (λ ps. map Dir (dir ∷ dirs) ++ ps) read.parts)
+    ∙ unended_line format_options dir dirs (texts new.rest.now) read.given read.all (ap (begins is_dir) (sym read.parts) ∙ first) read.ended more
+
+-- no directories next
+pub no_dirs_next : (line : Line) → begins is_given (parts_left line) ≡ false → begins is_dir (parts_left line) ≡ false → ((later : List Word) → texts line.rest.now ≢ codes "--" ∷ later) → IsUnread line
+no_dirs_next line option first unmarked = by (texts line.rest.now) refl
   where
-    none : (given : Given) (rest : List Word) → Taken given → first ∷ later ≡ words_of given ++ rest → ⊥
-    none (joined option value) rest taken begins = joint option value true taken (cc)
-    none (apart option value) rest taken begins = alone option true taken.0 (cc)
-    none (bare option) rest taken begins = no_bare option taken
+    by : (words : List Word) → texts line.rest.now ≡ words → IsUnread line
+    by [] is = inr (inl (ap (λ ws. dirs_of (parts_of format_options ws)) is))
+    by (word ∷ words) is = inl (stray_first format_options (texts line.rest.now) (λ none. let no : word ∷ words ≡ [] = sym is ∙ none in cc) option first unmarked)
 
-mark_alone : (option : Word) (valued : Bool) → FormatTakes option valued → codes "--" ≢ option
-mark_alone option valued (inl is, with_value) same = let both : codes "--" ≡ codes "--cluster" = same ∙ is in cc
-mark_alone option valued (inr is, with_value) same = let both : codes "--" ≡ codes "--namespace" = same ∙ is in cc
+-- ---- what `format` asks for
 
-mark_joint : (option value : Word) (valued : Bool) → FormatTakes option valued → codes "--" ≢ (option ++ codes "=") ++ value
-mark_joint option value valued (inl is, with_value) same = let both : codes "--" ≡ (codes "--cluster" ++ codes "=") ++ value = same ∙ ap (λ o. (o ++ codes "=") ++ value) is in cc
-mark_joint option value valued (inr is, with_value) same = let both : codes "--" ≡ (codes "--namespace" ++ codes "=") ++ value = same ∙ ap (λ o. (o ++ codes "=") ++ value) is in cc
+pub once_of_two : (values : List Word) → 2 ≤ length values → once values ≡ None
+once_of_two [] two = absurd (omega arith)
+once_of_two (value ∷ []) two = absurd (omega arith)
+once_of_two (value ∷ other ∷ values) two = refl
 
-pub none_at_mark : (later : List Word) → BeginWithNone FormatTakes (codes "--" ∷ later)
-none_at_mark later = none_at (codes "--") later mark_alone mark_joint
+pub no_number : (cluster : Option Word) (dirs : List Word) → format_for cluster None dirs ≡ None
+no_number None dirs = refl
+no_number (Some cluster) dirs = refl
 
-pub none_at_plain : (first : Word) (later : List Word) → IsTrue (is_plain first) → BeginWithNone FormatTakes (first ∷ later)
-none_at_plain first later plain =
-    none_at first later
-    (λ option valued takes same. both_ways _ (ap is_plain same ∙ unplain_option option valued takes) plain)
-    (λ option value valued takes same. both_ways _ (ap is_plain same ∙ unplain_joined option value valued takes) plain)
+pub either_none : (test : Bool) (found : Option Wanted) → found ≡ None → (if test then found else None) ≡ None
+either_none true found none = none
+either_none false found none = refl
 
-none_at_nothing : (given : Given) (rest : List Word) → [] ≢ words_of given ++ rest
-none_at_nothing (joined option value) rest begins = cc
-none_at_nothing (apart option value) rest begins = cc
-none_at_nothing (bare option) rest begins = cc
-
-pub none_at_end : (end : List Word) → IsEnd end → BeginWithNone FormatTakes end
-none_at_end end (inl nothing) = λ given rest taken begins. none_at_nothing given rest (sym nothing ∙ begins)
-none_at_end end (inr mark) = λ given rest taken begins. none_at_mark [] given rest taken (sym mark ∙ begins)
-
--- plain words are told from the words behind them
-plain_once : (dirs others rest rest' : List Word) → AllPlain dirs → AllPlain others → BeginUnplain rest → BeginUnplain rest' → dirs ++ rest ≡ others ++ rest' → (dirs ≡ others) × (rest ≡ rest')
-plain_once [] [] rest rest' plain plain' stop stop' same = (refl, same)
-plain_once [] (first ∷ others) rest rest' plain plain' stop stop' same = absurd (both_ways _ (stop first (others ++ rest') same) (All-head (λ word. IsTrue (is_plain word)) first others plain'))
-plain_once (first ∷ dirs) [] rest rest' plain plain' stop stop' same = absurd (both_ways _ (stop' first (dirs ++ rest) (sym same)) (All-head (λ word. IsTrue (is_plain word)) first dirs plain))
-plain_once (first ∷ dirs) (first' ∷ others) rest rest' plain plain' stop stop' same =
-    let below = plain_once dirs others rest rest' (All-tail (λ word. IsTrue (is_plain word)) first dirs plain) (All-tail (λ word. IsTrue (is_plain word)) first' others plain') stop stop' (cc) in
-    let one = below.0 in (cc, below.1)
-
-pub back_found : (words dirs rest : List Word) (back : List Given) (others : List Word) → AllPlain dirs → BeginUnplain rest → words ≡ dirs ++ rest → (spell : SpellBack words back others) → (dirs ≡ others) × (rest ≡ spelling back ++ spell.end)
-back_found words dirs rest back others plain stop same spell =
-    plain_once dirs others rest (spelling back ++ spell.end) plain spell.plain stop (unplain_back back spell.end spell.taken spell.ends) (sym same ∙ spell.spelled)
+pub unread_format : (line : Line) → line.cluster ≡ None → line.namespace ≡ None → IsUnread line → format_in (parts_left line) ≡ None
+unread_format line cluster namespace (inl broken) = rw broken refl
+unread_format line cluster namespace (inr (inl none)) = rw none (rw (and_right (is_line (parts_left line)) false refl) refl)
+unread_format line cluster namespace (inr (inr (inl twice))) =
+    let values = values_of (codes "--cluster") (parts_left line) in
+    let none : once values ≡ None = once_of_two values (subst (λ v. 2 ≤ length (given_value v ++ values)) cluster twice) in
+    either_none (is_line (parts_left line) && are_dirs (dirs_of (parts_left line))) _ (rw none refl)
+unread_format line cluster namespace (inr (inr (inr twice))) =
+    let values = values_of (codes "--namespace") (parts_left line) in
+    let none : once values ≡ None = once_of_two values (subst (λ v. 2 ≤ length (given_value v ++ values)) namespace twice) in
+    either_none (is_line (parts_left line) && are_dirs (dirs_of (parts_left line))) _
+    (rw none (no_number (option_and_then cluster_in (once (values_of (codes "--cluster") (parts_left line)))) (dirs_of (parts_left line))))

@@ -1,7 +1,11 @@
 pub mod WordsLemmas
+pub mod PartsLemmas
 pub mod OptionsLemmas
 pub mod FormatWordsLemmas
+pub mod ReadingLemmas
+pub mod LawLemmas
 pub mod LineLemmas
+pub mod SpelledLemmas
 pub mod ClosesLemmas
 pub mod DidLemmas
 pub mod UsageLemmas

@@ -1,210 +1,136 @@
--- Lemmas on whole lines of `format`.
-use Rattle.std.proofs.Common.{◌≡◌, ◌≢◌, ◌⊎◌, ◌≤◌, ℕ, List, [], ◌∷◌, ◌++◌, length, codes, All, IsTrue, Option, Some, None, IsSomeAnd, inl, inr, refl, sym, ap, ◌∙◌, subst, length-append, arith}
+-- What follows for whole lines, and for the directories of a reading.
+use Rattle.std.proofs.Common.{suc, All, nat_le, ◌≡◌, ◌≢◌, ◌⊎◌, Bool, true, false, not, ◌&&◌, ◌||◌, List, [], ◌∷◌, ◌++◌, length, map, codes, Some, None, if◌then◌else◌, inl, inr, ⊎_elim, refl, sym, ap, ◌∙◌, append_assoc, arith}
+use Rattle.std.specs.List.{AllPairs, list_all}
+use Rattle.std.specs.Str.{bytes_eq}
+use Rattle.std.proofs.lemmas.Bool.{true≢false, false≢true, and_from, and_parts, le-leb, leb-true, or_from, or_parts}
 use Rattle.std.proofs.lemmas.Grind.{flat_map-append}
 use Rattle.std.proofs.lemmas.List.{append-nil}
-use Rattle.std.proofs.lemmas.List.Elements.{All-append, All-cons, All-head, All-nil, All-tail}
-use Rattle.nn_top.specs.Words.{Word, is_plain, AllPlain, AreDirs}
-use Rattle.nn_top.specs.Options.{Given, spelling, value_for, values_of, SpellWith}
-use Rattle.nn_top.specs.Commands.{FormatTakes, AskStates, AskFormat, AskDry, Asks}
-use Rattle.nn_top.specs.Wanted.{Wanted, States, Format, Dry, dirs_in}
-use Rattle.nn_top.specs.FormatWords.{BeginWithNone, given_value, Adds, GivenTwice, GivenOnce, SpellBack, SpellLine}
-use Rattle.nn_base.specs.Decimal.{number_in}
-use Rattle.nn_top.specs.declared.words.format.Line.{Line}
-use Rattle.nn_top.proofs.FormatWordsLemmas.{Taken, back_found, none_at_end, none_at_mark, none_at_plain, one_spelling, unplain_back}
-use Rattle.nn_top.proofs.WordsLemmas.{AskStates-unique, mark_not_plain}
+use Rattle.std.proofs.lemmas.List.Elements.{All-cons, All-head, All-nil, All-tail}
+use Rattle.std.proofs.lemmas.List.Kept.{AllPairs-cons}
+use Rattle.std.proofs.lemmas.Slice.Eq.{bytes_eq-Decides}
+use Rattle.nn_base.specs.Limits.{most_dirs}
+use Rattle.nn_top.specs.Words.{Word, is_plain, can_stand_apart, is_among, is_named, are_distinct, are_dirs}
+use Rattle.nn_top.specs.Parts.{Part, Given, Dir, Mark, parts_of, is_line, dirs_of, value_in, values_of}
+use Rattle.nn_top.specs.Wanted.{Wanted, dirs_in}
+use Rattle.nn_top.specs.Commands.{format_in, format_options, reading_of}
+use Rattle.nn_top.specs.FormatWords.{BeginWith, IsEnd, is_given}
+use Rattle.nn_top.specs.Laws.{AreDirs, Choice, is_choice, words_of, spelling, values_in, format_with}
+use Rattle.nn_top.proofs.PartsLemmas.{mark_first, plain_parts, ended, line_of_dirs, marked_line, named, skipped, skipped_line}
+use Rattle.nn_top.proofs.LawLemmas.{not_not, option_first}
+use Rattle.nn_top.proofs.ReadingLemmas.{read_by}
 
-All-left : {X : Type 0} (P : X → Type 0) (xs ys : List X) → All P (xs ++ ys) → All P xs
-All-left P [] ys all = All-nil P
-All-left P (x ∷ xs) ys all = All-cons P x xs (All-head P x (xs ++ ys) all) (All-left P xs ys (All-tail P x (xs ++ ys) all))
+-- ---- whole lines of `format`
 
-All-right : {X : Type 0} (P : X → Type 0) (xs ys : List X) → All P (xs ++ ys) → All P ys
-All-right P [] ys all = all
-All-right P (x ∷ xs) ys all = All-right P xs ys (All-tail P x (xs ++ ys) all)
+abbrev pub part_for : Choice → Part
+part_for choice = Given choice.name choice.value
 
--- what a reading has in front of its directories, and from there on
-pub record Front (words : List Word) (given : List Given) (dirs : List Word) : Type 0 where
-  pub front : List Given
-  pub back : List Given
-  pub rest : List Word
-  pub both : given ≡ front ++ back
-  pub taken : All Taken front
-  pub spelled : words ≡ spelling front ++ rest
-  pub ended : BeginWithNone FormatTakes rest
-  pub behind : ((back ≡ []) × (rest ≡ codes "--" ∷ dirs)) ⊎ SpellBack rest back dirs
+begin_choice : (choice : Choice) (rest : List Word) → is_choice choice ≡ true → BeginWith (words_of choice ++ rest) choice.name choice.value rest
+begin_choice choice rest is = by choice.is_joined refl
+  where
+    by : (joined : Bool) → choice.is_joined ≡ joined → BeginWith (words_of choice ++ rest) choice.name choice.value rest
+    by true e = inl (rw e refl)
+    by false e = inr (rw e refl, ap (λ b. b || can_stand_apart choice.value) (sym e) ∙ (and_parts (is_among format_options choice.name) (choice.is_joined || can_stand_apart choice.value) is).1)
 
-none_at_dirs : (dirs later : List Word) → dirs ≢ [] → AllPlain dirs → BeginWithNone FormatTakes (dirs ++ later)
-none_at_dirs [] later some plain = absurd (some refl)
-none_at_dirs (first ∷ dirs) later some plain = none_at_plain first (dirs ++ later) (All-head (λ word. IsTrue (is_plain word)) first dirs plain)
+pub choices_parts : (choices : List Choice) (rest : List Word) → list_all is_choice choices ≡ true → parts_of format_options (spelling choices ++ rest) ≡ map part_for choices ++ parts_of format_options rest
+choices_parts [] rest all = refl
+choices_parts (choice ∷ choices) rest all =
+    let parts = and_parts (is_choice choice) (list_all is_choice choices) all in
+    let is = (and_parts (is_among format_options choice.name) (choice.is_joined || can_stand_apart choice.value) parts.0).0 in
+    ap (parts_of format_options) (append_assoc (words_of choice) (spelling choices) rest)
+    ∙ (option_first choice.name choice.value (words_of choice ++ (spelling choices ++ rest)) (spelling choices ++ rest) is (begin_choice choice (spelling choices ++ rest) parts.0)
+    ∙ ap (λ ps. part_for choice ∷ ps) (choices_parts choices rest parts.1))
 
-pub Front-from : (words : List Word) (given : List Given) (dirs : List Word) → dirs ≢ [] → All Taken given → SpellWith words given dirs → Front words given dirs
-Front-from words given dirs some taken (inr marked) = record {
-  front = given;
-  back = [];
-  rest = codes "--" ∷ dirs;
-  both = sym (append-nil given);
-  taken = taken;
-  spelled = marked;
-  ended = none_at_mark dirs;
-  behind = inl (refl, refl);
-}
-Front-from words given dirs some taken (inl plain) =
-    let parts : All Taken (plain.front ++ plain.back) = subst (λ os. All Taken os) plain.both taken in
-    record {
-      front = plain.front;
-      back = plain.back;
-      rest = dirs ++ (spelling plain.back ++ plain.end);
-      both = plain.both;
-      taken = All-left Taken plain.front plain.back parts;
-      spelled = plain.spelled;
-      ended = none_at_dirs dirs (spelling plain.back ++ plain.end) some plain.plain;
-      behind = inr (record { end = plain.end; taken = All-right Taken plain.front plain.back parts; plain = plain.plain; ends = plain.ends; spelled = refl });
-    }
+pub all_given : (choices : List Choice) → list_all is_given (map part_for choices) ≡ true
+all_given [] = refl
+all_given (choice ∷ choices) = all_given choices
 
--- the values of the options in front and behind
-values_of-append : (option : Word) (front back given : List Given) → given ≡ front ++ back → values_of option given ≡ values_of option front ++ values_of option back
-values_of-append option front back given both = ap (values_of option) both ∙ flat_map-append (value_for option) front back
+choice_values : (option : Word) (choices : List Choice) → values_of option (map part_for choices) ≡ values_in option choices
+choice_values option [] = refl
+choice_values option (choice ∷ choices) = ap (λ vs. (if bytes_eq choice.name option then choice.value ∷ [] else []) ++ vs) (choice_values option choices)
 
-front_once : (option : Word) (front back given : List Given) → given ≡ front ++ back → length (values_of option given) ≤ 1 → 2 ≤ length (values_of option front) → ⊥
-front_once option front back given both once twice =
-    omega (arith, ap length (values_of-append option front back given both), length-append (values_of option front) (values_of option back))
+format_line : (parts : List Part) (choices : List Choice) (dirs : List Word) → is_line parts ≡ true → dirs_of parts ≡ dirs → ((option : Word) → values_of option parts ≡ values_in option choices) → format_in parts ≡ format_with choices dirs
+format_line parts choices dirs line is values = rw line (rw is (rw (values (codes "--cluster")) (rw (values (codes "--namespace")) refl)))
 
--- no option comes twice in front where none does in the whole
-pub once_in_front : (line : Line) (front back given : List Given) → given_value line.cluster ≡ [] → given_value line.namespace ≡ [] → given ≡ front ++ back → GivenOnce given → GivenTwice line front → ⊥
-once_in_front line front back given no_cluster no_namespace both once (inl twice) =
-    front_once (codes "--cluster") front back given both once.0 (subst (λ vs. 2 ≤ length (vs ++ values_of (codes "--cluster") front)) no_cluster twice)
-once_in_front line front back given no_cluster no_namespace both once (inr twice) =
-    front_once (codes "--namespace") front back given both once.1 (subst (λ vs. 2 ≤ length (vs ++ values_of (codes "--namespace") front)) no_namespace twice)
+pub marked_read : (choices : List Choice) (dirs : List Word) → list_all is_choice choices ≡ true → reading_of (codes "format" ∷ (spelling choices ++ codes "--" ∷ dirs)) ≡ format_with choices dirs
+marked_read choices dirs all =
+    let front = map part_for choices in
+    let s = skipped front (Mark ∷ map Dir dirs) (all_given choices) in
+    ap format_in (choices_parts choices (codes "--" ∷ dirs) all ∙ ap (λ ps. front ++ ps) (mark_first format_options dirs))
+    ∙ format_line (front ++ (Mark ∷ map Dir dirs)) choices dirs
+    (skipped_line front (Mark ∷ map Dir dirs) (all_given choices) ∙ (marked_line dirs).0)
+    (s.dirs ∙ (marked_line dirs).1)
+    (λ option. flat_map-append (value_in option) front (Mark ∷ map Dir dirs) ∙ (ap (λ vs. values_of option front ++ vs) (ap (values_of option) (sym (append-nil (map Dir dirs))) ∙ (named dirs []).values option) ∙ (append-nil (values_of option front) ∙ choice_values option choices)))
 
--- nor behind, with the values from the front
-pub once_behind : (line : Line) (front back given : List Given) → given_value line.cluster ≡ values_of (codes "--cluster") front → given_value line.namespace ≡ values_of (codes "--namespace") front → given ≡ front ++ back → GivenOnce given → GivenTwice line back → ⊥
-once_behind line front back given cluster namespace both once (inl twice) =
-    omega (arith, ap length (values_of-append (codes "--cluster") front back given both), ap (λ vs. length (vs ++ values_of (codes "--cluster") back)) cluster, once.0)
-once_behind line front back given cluster namespace both once (inr twice) =
-    omega (arith, ap length (values_of-append (codes "--namespace") front back given both), ap (λ vs. length (vs ++ values_of (codes "--namespace") back)) namespace, once.1)
+pub plain_read_line : (front back : List Choice) (dirs end : List Word) → list_all is_choice front ≡ true → list_all is_choice back ≡ true → list_all is_plain dirs ≡ true → IsEnd end
+    → reading_of (codes "format" ∷ (spelling front ++ (dirs ++ (spelling back ++ end)))) ≡ format_with (front ++ back) dirs
+plain_read_line front back dirs end all all' plain ends =
+    let before = map part_for front in
+    let behind = map part_for back in
+    let last = parts_of format_options end in
+    let e = ended format_options end ends in
+    let s = skipped behind last (all_given back) in
+    let line = line_of_dirs dirs (behind ++ last) (s.known ∙ e.0) (s.none ∙ e.1) in
+    ap format_in (choices_parts front (dirs ++ (spelling back ++ end)) all
+    ∙ ap (λ ps. before ++ ps) (plain_parts format_options dirs (spelling back ++ end) plain ∙ ap (λ ps. map Dir dirs ++ ps) (choices_parts back end all')))
+    ∙ format_line (before ++ (map Dir dirs ++ (behind ++ last))) (front ++ back) dirs
+    (skipped_line before (map Dir dirs ++ (behind ++ last)) (all_given front) ∙ line.0)
+    ((skipped before (map Dir dirs ++ (behind ++ last)) (all_given front)).dirs ∙ line.1)
+    (λ option.
+    flat_map-append (value_in option) before (map Dir dirs ++ (behind ++ last))
+    ∙ (ap (λ vs. values_of option before ++ vs) ((named dirs (behind ++ last)).values option ∙ (flat_map-append (value_in option) behind last ∙ (ap (λ vs. values_of option behind ++ vs) (e.2 option) ∙ append-nil (values_of option behind))))
+    ∙ (ap (λ vs. vs ++ values_of option behind) (choice_values option front) ∙ (ap (λ vs. values_in option front ++ vs) (choice_values option back)
+    ∙ sym (flat_map-append (λ choice. if bytes_eq choice.name option then choice.value ∷ [] else []) front back)))))
 
--- directories before `--` don't begin with it
-pub marked_back : (rest later : List Word) (back : List Given) (dirs : List Word) → dirs ≢ [] → SpellBack rest back dirs → rest ≡ codes "--" ∷ later → ⊥
-marked_back rest later back [] some spell marked = some refl
-marked_back rest later back (first ∷ dirs) some spell marked =
-    let same = spell.spelled in
-    mark_not_plain first (cc) (All-head (λ word. IsTrue (is_plain word)) first dirs spell.plain)
+-- ---- the directories of a reading
 
--- the options in front are those of a reading
-pub front_read : (words : List Word) (given front : List Given) (dirs rest : List Word) → All Taken front → words ≡ spelling front ++ rest → BeginWithNone FormatTakes rest → (reading : Front words given dirs) → (front ≡ reading.front) × (rest ≡ reading.rest)
-front_read words given front dirs rest taken spelled ended reading =
-    one_spelling front reading.front words rest reading.rest taken reading.taken spelled reading.spelled ended reading.ended
+none_among : (word : Word) (words : List Word) → is_among words word ≡ false → All (λ other. word ≢ other) words
+none_among word [] none = All-nil (λ other. word ≢ other)
+none_among word (other ∷ words) none =
+    let parts = or_parts (bytes_eq word other) (is_among words word) none in
+    All-cons (λ other. word ≢ other) other words (λ same. true≢false (sym ((bytes_eq-Decides word other).1 same) ∙ parts.0)) (none_among word words parts.1)
 
--- a line that `--` ends in front of its directories
-pub SpellLine-marked : (words : List Word) (given front : List Given) (line : Line) (dirs : List Word) → front ≡ given → All Taken given → SpellWith words given dirs → given_value line.cluster ≡ values_of (codes "--cluster") front → given_value line.namespace ≡ values_of (codes "--namespace") front → SpellLine words given line dirs
-SpellLine-marked words given front line dirs same taken spelled cluster namespace = record {
-  taken = taken;
-  spelled = spelled;
-  cluster = cluster ∙ ap (values_of (codes "--cluster")) same;
-  namespace = namespace ∙ ap (values_of (codes "--namespace")) same;
-}
+all_distinct : (words : List Word) → are_distinct words ≡ true → AllPairs (λ one other. one ≢ other) words
+all_distinct [] distinct = λ i j d less below. absurd (omega arith)
+all_distinct (word ∷ words) distinct =
+    let parts = and_parts (not (is_among words word)) (are_distinct words) distinct in
+    AllPairs-cons (λ one other. one ≢ other) word words (none_among word words (not_not (is_among words word) parts.0)) (all_distinct words parts.1)
 
--- values from the front and from behind
-pub values_added : (option : Word) (front back given : List Given) (old new : List Word) → given ≡ front ++ back → old ≡ values_of option front → new ≡ old ++ values_of option back → new ≡ values_of option given
-values_added option front back given old new both first second =
-    second ∙ (ap (λ vs. vs ++ values_of option back) first ∙ sym (values_of-append option front back given both))
+all_named : (dirs : List Word) → list_all is_named dirs ≡ true → All (λ dir. dir ≢ []) dirs
+all_named [] all = All-nil (λ dir. dir ≢ [])
+all_named ([] ∷ dirs) all = absurd (false≢true all)
+all_named ((first ∷ name) ∷ dirs) all = All-cons (λ dir. dir ≢ []) (first ∷ name) dirs (λ none. cc) (all_named dirs (and_parts (is_named (first ∷ name)) (list_all is_named dirs) all).1)
 
-pub SpellLine-plain : (words : List Word) (front back : List Given) (old new : Line) (rest dirs : List Word) → All Taken front → words ≡ spelling front ++ rest → given_value old.cluster ≡ values_of (codes "--cluster") front → given_value old.namespace ≡ values_of (codes "--namespace") front → SpellBack rest back dirs → Adds back old new → SpellLine words (front ++ back) new dirs
-SpellLine-plain words front back old new rest dirs taken begins cluster namespace spell added = record {
-  taken = All-append Taken front back taken spell.taken;
-  spelled = inl (record {
-    front = front;
-    back = back;
-    end = spell.end;
-    both = refl;
-    plain = spell.plain;
-    ends = spell.ends;
-    spelled = begins ∙ ap (λ ws. spelling front ++ ws) spell.spelled;
-  });
-  cluster = values_added (codes "--cluster") front back (front ++ back) (given_value old.cluster) (given_value new.cluster) refl cluster added.cluster;
-  namespace = values_added (codes "--namespace") front back (front ++ back) (given_value old.namespace) (given_value new.namespace) refl namespace added.namespace;
-}
+-- one to eight, none without a name, no two with the same
+pub directories : (dirs : List Word) → are_dirs dirs ≡ true → AreDirs dirs
+directories dirs are =
+    let some = and_parts (nat_le 1 (length dirs)) (nat_le (length dirs) most_dirs && (list_all is_named dirs && are_distinct dirs)) are in
+    let few = and_parts (nat_le (length dirs) most_dirs) (list_all is_named dirs && are_distinct dirs) some.1 in
+    let named = and_parts (list_all is_named dirs) (are_distinct dirs) few.1 in
+    record { some = leb-true 1 (length dirs) some.0; few = leb-true (length dirs) most_dirs few.0; named = all_named dirs named.0; distinct = all_distinct dirs named.1 }
 
-pub whole_front : (given front back : List Given) → given ≡ front ++ back → back ≡ [] → given ≡ front
-whole_front given front back both none = both ∙ (ap (λ os. front ++ os) none ∙ append-nil front)
+among_none : (word : Word) (words : List Word) → All (λ other. word ≢ other) words → is_among words word ≡ false
+among_none word [] all = refl
+among_none word (other ∷ words) all = or_from (bytes_eq word other) (is_among words word) (by (bytes_eq word other) refl) (among_none word words (All-tail (λ other. word ≢ other) other words all))
+  where
+    by : (b : Bool) → bytes_eq word other ≡ b → bytes_eq word other ≡ false
+    by false e = e
+    by true e = absurd (All-head (λ other. word ≢ other) other words all ((bytes_eq-Decides word other).0 e))
 
--- what follows for the line and the directories that were found
-pub IsSomeAnd_then : {X : Type 0} (found : Option X) {P Q : X → Type 0} → IsSomeAnd found P → ((x : X) → P x → Q x) → IsSomeAnd found Q
-IsSomeAnd_then None {P} {Q} some then = some
-IsSomeAnd_then (Some x) {P} {Q} some then = then x some
+distinct_all : (words : List Word) → AllPairs (λ one other. one ≢ other) words → are_distinct words ≡ true
+distinct_all [] pairs = refl
+distinct_all (word ∷ words) pairs =
+    and_from (not (is_among words word)) (are_distinct words) (ap not (among_none word words (λ k d below. pairs 0 (suc k) d (omega arith) (omega arith)))) (distinct_all words (λ i j d less below. pairs (suc i) (suc j) d (omega arith) (omega arith)))
 
--- a reading of `format`, behind the command
-pub later_spelled : (words later dirs : List Word) (first cluster : Word) (namespace : ℕ) → words ≡ first ∷ later → (ask : AskFormat words cluster namespace dirs) → SpellWith later ask.options dirs
-later_spelled words later dirs first cluster namespace split ask =
-    let same : ask.later ≡ later = let command = ask.command in cc in
-    subst (λ rest. SpellWith rest ask.options dirs) same ask.spelled
+named_all : (dirs : List Word) → All (λ dir. dir ≢ []) dirs → list_all is_named dirs ≡ true
+named_all [] all = refl
+named_all ([] ∷ dirs) all = absurd (All-head (λ dir. dir ≢ []) [] dirs all refl)
+named_all ((first ∷ name) ∷ dirs) all = and_from (is_named (first ∷ name)) (list_all is_named dirs) (le-leb 1 (length (first ∷ name)) (omega arith)) (named_all dirs (All-tail (λ dir. dir ≢ []) (first ∷ name) dirs all))
 
-pub asked_once : (words dirs : List Word) (cluster : Word) (namespace : ℕ) (ask : AskFormat words cluster namespace dirs) → GivenOnce ask.options
-asked_once words dirs cluster namespace ask = (omega (arith, ap length ask.cluster_given), omega (arith, ap length ask.namespace_given))
+pub directories_are : (dirs : List Word) → AreDirs dirs → are_dirs dirs ≡ true
+directories_are dirs are =
+    and_from (nat_le 1 (length dirs)) _ (le-leb 1 (length dirs) are.some)
+    (and_from (nat_le (length dirs) most_dirs) _ (le-leb (length dirs) most_dirs are.few) (and_from (list_all is_named dirs) (are_distinct dirs) (named_all dirs are.named) (distinct_all dirs are.distinct)))
 
-pub some_dirs : (dirs : List Word) → AreDirs dirs → dirs ≢ []
-some_dirs dirs are none = omega (arith, are.some, ap length none)
-
--- directories and options behind the same front
-behind_once : (rest rest' : List Word) (back others : List Given) (dirs dirs' : List Word) → rest ≡ rest' → dirs ≢ [] → dirs' ≢ [] → ((back ≡ []) × (rest ≡ codes "--" ∷ dirs)) ⊎ SpellBack rest back dirs → ((others ≡ []) × (rest' ≡ codes "--" ∷ dirs')) ⊎ SpellBack rest' others dirs' → (back ≡ others) × (dirs ≡ dirs')
-behind_once rest rest' back others dirs dirs' same some some' (inl (none, marked)) (inl (none', marked')) = (cc, cc)
-behind_once rest rest' back others dirs dirs' same some some' (inl (none, marked)) (inr plain') = absurd (marked_back rest' dirs others dirs' some' plain' (sym same ∙ marked))
-behind_once rest rest' back others dirs dirs' same some some' (inr plain) (inl (none', marked')) = absurd (marked_back rest dirs' back dirs some plain (same ∙ marked'))
-behind_once rest rest' back others dirs dirs' same some some' (inr plain) (inr plain') =
-    let other : SpellBack rest others dirs' = subst (λ ws. SpellBack ws others dirs') (sym same) plain' in
-    let front = back_found rest dirs (spelling back ++ plain.end) others dirs' plain.plain (unplain_back back plain.end plain.taken plain.ends) plain.spelled other in
-    let behind = one_spelling back others (spelling back ++ plain.end) plain.end other.end plain.taken other.taken refl front.1 (none_at_end plain.end plain.ends) (none_at_end other.end other.ends) in
-    (behind.0, front.0)
-
--- words spell one list of options and of directories at most
-pub SpellWith-unique : (words : List Word) (given others : List Given) (dirs dirs' : List Word) → dirs ≢ [] → dirs' ≢ [] → All Taken given → All Taken others → SpellWith words given dirs → SpellWith words others dirs' → (given ≡ others) × (dirs ≡ dirs')
-SpellWith-unique words given others dirs dirs' some some' taken taken' spell spell' =
-    let one = Front-from words given dirs some taken spell in
-    let other = Front-from words others dirs' some' taken' spell' in
-    let same = front_read words others one.front dirs' one.rest one.taken one.spelled one.ended other in
-    let here = behind_once one.rest other.rest one.back other.back dirs dirs' same.1 some some' one.behind other.behind in
-    (one.both ∙ (ap (λ os. os ++ one.back) same.0 ∙ (ap (λ os. other.front ++ os) here.0 ∙ sym other.both)), here.1)
-
--- words ask to format one list of directories at most, for one cluster and one namespace
-pub AskFormat-unique : (words dirs dirs' : List Word) (cluster cluster' : Word) (namespace namespace' : ℕ) → AskFormat words cluster namespace dirs → AskFormat words cluster' namespace' dirs' → (cluster ≡ cluster') × (namespace ≡ namespace') × (dirs ≡ dirs')
-AskFormat-unique words dirs dirs' cluster cluster' namespace namespace' ask ask' =
-    let command = ask'.command in
-    let spell = later_spelled words ask'.later dirs (codes "format") cluster namespace command ask in
-    let same = SpellWith-unique ask'.later ask.options ask'.options dirs dirs' (some_dirs dirs ask.are_dirs) (some_dirs dirs' ask'.are_dirs) ask.taken ask'.taken spell ask'.spelled in
-    let clusters : cluster ∷ [] ≡ cluster' ∷ [] = sym ask.cluster_given ∙ (ap (values_of (codes "--cluster")) same.0 ∙ ask'.cluster_given) in
-    let numbers : ask.number ∷ [] ≡ ask'.number ∷ [] = sym ask.namespace_given ∙ (ap (values_of (codes "--namespace")) same.0 ∙ ask'.namespace_given) in
-    let number : ask.number ≡ ask'.number = cc in
-    let written : Some namespace ≡ Some namespace' = sym ask.namespace_written.0 ∙ (ap number_in number ∙ ask'.namespace_written.0) in
-    (cc, cc, same.1)
-
-two_commands : (words dirs dirs' : List Word) (cluster : Word) (namespace : ℕ) → AskStates words dirs → AskFormat words cluster namespace dirs' → ⊥
-two_commands words dirs dirs' cluster namespace ask ask' =
-    let same : codes "state" ∷ ask.later ≡ codes "format" ∷ ask'.later = sym ask.command ∙ ask'.command in cc
-
-dry_or_states : (words dirs : List Word) → AskDry words → AskStates words dirs → ⊥
-dry_or_states words dirs (inl alone) ask = let no : codes "dry" ∷ [] ≡ codes "state" ∷ ask.later = sym alone ∙ ask.command in cc
-dry_or_states words dirs (inr marked) ask = let no : codes "dry" ∷ codes "--" ∷ [] ≡ codes "state" ∷ ask.later = sym marked ∙ ask.command in cc
-
--- `dry` is another command than `format`
-pub dry_or_format : (words dirs : List Word) (cluster : Word) (namespace : ℕ) → AskDry words → AskFormat words cluster namespace dirs → ⊥
-dry_or_format words dirs cluster namespace (inl alone) ask = let no : codes "dry" ∷ [] ≡ codes "format" ∷ ask.later = sym alone ∙ ask.command in cc
-dry_or_format words dirs cluster namespace (inr marked) ask = let no : codes "dry" ∷ codes "--" ∷ [] ≡ codes "format" ∷ ask.later = sym marked ∙ ask.command in cc
-
--- words ask for one thing at most
-pub Asks-unique : (words : List Word) (one other : Wanted) → Asks words one → Asks words other → one ≡ other
-Asks-unique words (States dirs) (States dirs') ask ask' = ap States (AskStates-unique words dirs dirs' ask ask')
-Asks-unique words (States dirs) (Format cluster' namespace' dirs') ask ask' = absurd (two_commands words dirs dirs' cluster' namespace' ask ask')
-Asks-unique words (States dirs) Dry ask ask' = absurd (dry_or_states words dirs ask' ask)
-Asks-unique words (Format cluster namespace dirs) (States dirs') ask ask' = absurd (two_commands words dirs' dirs cluster namespace ask' ask)
-Asks-unique words (Format cluster namespace dirs) (Format cluster' namespace' dirs') ask ask' =
-    let same = AskFormat-unique words dirs dirs' cluster cluster' namespace namespace' ask ask' in
-    λ i. Format (same.0 i) (same.1 i) (same.2 i)
-Asks-unique words (Format cluster namespace dirs) Dry ask ask' = absurd (dry_or_format words dirs cluster namespace ask' ask)
-Asks-unique words Dry (States dirs') ask ask' = absurd (dry_or_states words dirs' ask ask')
-Asks-unique words Dry (Format cluster' namespace' dirs') ask ask' = absurd (dry_or_format words dirs' cluster' namespace' ask ask')
-Asks-unique words Dry Dry ask ask' = refl
-
--- what they ask for has at most eight directories
-pub Asks-few : (words : List Word) (wanted : Wanted) → Asks words wanted → length (dirs_in wanted) ≤ 8
-Asks-few words (States dirs) ask = ask.are_dirs.few
-Asks-few words (Format cluster namespace dirs) ask = ask.are_dirs.few
-Asks-few words Dry ask = omega arith
+pub read_dirs : (words : List Word) (wanted : Wanted) → reading_of words ≡ Some wanted → (dirs_in wanted ≡ []) ⊎ AreDirs (dirs_in wanted)
+read_dirs [] wanted asks = let no : None ≡ Some wanted = asks in cc
+read_dirs (command ∷ words) wanted asks = ⊎_elim (λ are. inr (directories (dirs_in wanted) are)) (λ none. inl none) (read_by command words wanted asks).allowed

@@ -1,8 +1,7 @@
 -- Lemmas on options at the head of words.
 use Rattle.std.proofs.Common.{◌≡◌, ◌≢◌, List, [], ◌∷◌, ◌++◌, codes, IsTrue, Option, Some, None, MatchOption, inl, inr, sym, ◌∙◌, append_assoc}
 use Rattle.std.proofs.lemmas.List.{append-nil}
-use Rattle.nn_top.specs.Words.{Word}
-use Rattle.nn_top.specs.Options.{can_stand_apart}
+use Rattle.nn_top.specs.Words.{Word, can_stand_apart}
 use Rattle.nn_top.specs.FormatWords.{BeginWith}
 
 -- a word that doesn't begin with the option

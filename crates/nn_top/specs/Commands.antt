@@ -1,59 +1,64 @@
 -- What the words of the command line ask for.
-use Rattle.std.specs.Prelude.{◌≡◌, ◌⊎◌, ◌≤◌, ℕ, Bool, List, [], ◌∷◌, codes, All, IsTrue, Some}
+use Rattle.std.specs.Prelude.{◌≡◌, ℕ, ◌&&◌, nat_le, List, [], ◌∷◌, codes, Option, Some, None, option_and_then, if◌then◌else◌}
+use Rattle.std.specs.Str.{bytes_eq}
 use Rattle.nn_base.specs.Decimal.{number_in}
 use Rattle.nn_base.specs.Words.{is_word}
 use Rattle.nn_top.specs.declared.words.Command.{Command}
 use Rattle.nn_top.specs.declared.words.Command.TheVariants as command
 use Rattle.nn_top.specs.Wanted.{Wanted, States, Format, Dry}
-use Rattle.nn_top.specs.Words.{Word, texts, AreDirs, Spell}
-use Rattle.nn_top.specs.Options.{Given, IsTaken, values_of, SpellWith}
+use Rattle.nn_top.specs.Words.{Word, texts, are_dirs}
+use Rattle.nn_top.specs.Parts.{Part, parts_of, is_line, no_dirs, dirs_of, values_of}
 
--- the words ask for the states of these directories
-pub record AskStates (words dirs : List Word) : Type 0 where
-  pub later : List Word
-  pub command : words ≡ codes "state" ∷ later
-  pub spelled : Spell later dirs
-  pub are_dirs : AreDirs dirs
+-- `state` takes directories alone
+abbrev pub states_in : List Part → Option Wanted
+states_in parts = if is_line parts && are_dirs (dirs_of parts) then Some (States (dirs_of parts)) else None
 
--- the words don't ask for states
-abbrev pub AskNoStates : List Word → Type 0
-AskNoStates words = (dirs : List Word) → AskStates words dirs → ⊥
+-- `dry` takes neither directories nor options
+abbrev pub dry_in : List Part → Option Wanted
+dry_in parts = if is_line parts && no_dirs parts then Some Dry else None
 
--- `format` takes two options, each with a value
-abbrev pub FormatTakes : Word → Bool → Type 0
-FormatTakes option valued = ((option ≡ codes "--cluster") ⊎ (option ≡ codes "--namespace")) × IsTrue valued
+-- the value of an option that is given once
+abbrev pub once : List Word → Option Word
+once [] = None
+once (value ∷ []) = Some value
+once (value ∷ other ∷ values) = None
 
--- a text writes the number of a namespace
-abbrev pub WritesNamespace : Word → ℕ → Type 0
-WritesNamespace text namespace = (number_in text ≡ Some namespace) × (1 ≤ namespace) × (namespace ≤ 2147483647)
+abbrev pub cluster_in : Word → Option Word
+cluster_in word = if is_word word then Some word else None
 
--- the words ask to format these directories for a cluster's id and a namespace's number, each given once
-pub record AskFormat (words : List Word) (cluster : Word) (namespace : ℕ) (dirs : List Word) : Type 0 where
-  pub later : List Word
-  pub options : List Given
-  pub number : Word
-  pub command : words ≡ codes "format" ∷ later
-  pub spelled : SpellWith later options dirs
-  pub taken : All (IsTaken FormatTakes) options
-  pub cluster_given : values_of (codes "--cluster") options ≡ cluster ∷ []
-  pub cluster_is_word : IsTrue (is_word cluster)
-  pub namespace_given : values_of (codes "--namespace") options ≡ number ∷ []
-  pub namespace_written : WritesNamespace number namespace
-  pub are_dirs : AreDirs dirs
+-- a namespace has a number from 1 to Java's largest `int`
+abbrev pub namespace_of : ℕ → Option ℕ
+namespace_of number = if nat_le 1 number && nat_le number 2147483647 then Some number else None
 
--- the words ask to run a script on a namespace in memory alone: no directories, no options
-abbrev pub AskDry : List Word → Type 0
-AskDry words = (words ≡ codes "dry" ∷ []) ⊎ (words ≡ codes "dry" ∷ codes "--" ∷ [])
+abbrev pub namespace_in : Word → Option ℕ
+namespace_in word = option_and_then namespace_of (number_in word)
 
--- the words ask for this
-abbrev pub Asks : List Word → Wanted → Type 0
-Asks words (States dirs) = AskStates words dirs
-Asks words (Format cluster namespace dirs) = AskFormat words cluster namespace dirs
-Asks words Dry = AskDry words
+abbrev pub format_for : Option Word → Option ℕ → List Word → Option Wanted
+format_for None namespace dirs = None
+format_for (Some cluster) None dirs = None
+format_for (Some cluster) (Some namespace) dirs = Some (Format cluster namespace dirs)
 
--- they ask for nothing
+-- `format` takes directories, a cluster's id and a namespace's number
+abbrev pub format_in : List Part → Option Wanted
+format_in parts =
+    if is_line parts && are_dirs (dirs_of parts)
+    then format_for (option_and_then cluster_in (once (values_of (codes "--cluster") parts))) (option_and_then namespace_in (once (values_of (codes "--namespace") parts))) (dirs_of parts)
+    else None
+
+abbrev pub format_options : List Word
+format_options = codes "--cluster" ∷ codes "--namespace" ∷ []
+
+-- what the words ask for, if they have a reading
+abbrev pub reading_of : List Word → Option Wanted
+reading_of [] = None
+reading_of (command ∷ words) =
+    if bytes_eq command (codes "state") then states_in (parts_of [] words)
+    else if bytes_eq command (codes "format") then format_in (parts_of format_options words)
+    else if bytes_eq command (codes "dry") then dry_in (parts_of [] words)
+    else None
+
 abbrev pub HaveNoReading : List Word → Type 0
-HaveNoReading words = (wanted : Wanted) → Asks words wanted → ⊥
+HaveNoReading words = reading_of words ≡ None
 
 -- what a command that was read does
 abbrev pub wanted_in : Command → Wanted

@@ -1,8 +1,9 @@
 pub mod Words
-pub mod Options
+pub mod Parts
 pub mod Wanted
 pub mod Commands
 pub mod FormatWords
+pub mod Laws
 pub mod Lines
 pub mod Closes
 pub mod Did

@@ -1,7 +1,9 @@
 -- Words of the command line, and directories that they name.
-use Rattle.std.specs.Prelude.{◌≡◌, ◌≢◌, ◌⊎◌, ◌==◌, ◌≤◌, ℕ, Bool, true, not, List, [], ◌∷◌, ◌++◌, length, map, codes, All, IsTrue, String}
-use Rattle.std.specs.List.{AllPairs}
+use Rattle.std.specs.Prelude.{◌==◌, ℕ, Bool, true, not, ◌&&◌, nat_le, List, [], ◌∷◌, length, map, String}
+use Rattle.std.specs.List.{list_all, list_any}
+use Rattle.std.specs.Str.{bytes_eq}
 use Rattle.std.specs.String.{string_bytes}
+use Rattle.nn_base.specs.Limits.{most_dirs}
 
 -- a word is its bytes
 abbrev pub Word : Type 0
@@ -16,18 +18,22 @@ is_plain [] = true
 is_plain (first ∷ []) = true
 is_plain (first ∷ second ∷ later) = not (first == 45)
 
-abbrev pub AllPlain : List Word → Type 0
-AllPlain words = All (λ word. IsTrue (is_plain word)) words
+-- a value that is a word of its own doesn't begin with `-`
+abbrev pub can_stand_apart : Word → Bool
+can_stand_apart [] = true
+can_stand_apart (first ∷ later) = not (first == 45)
+
+abbrev pub is_among : List Word → Word → Bool
+is_among words word = list_any (λ other. bytes_eq word other) words
+
+abbrev pub are_distinct : List Word → Bool
+are_distinct [] = true
+are_distinct (word ∷ words) = not (is_among words word) && are_distinct words
+
+-- a name has a byte at least
+abbrev pub is_named : Word → Bool
+is_named dir = nat_le 1 (length dir)
 
 -- one to eight directories, none without a name, no two with the same
-pub record AreDirs (dirs : List Word) : Type 0 where
-  pub some : 1 ≤ length dirs
-  pub few : length dirs ≤ 8
-  pub named : All (λ dir. dir ≢ []) dirs
-  pub distinct : AllPairs (λ one other. one ≢ other) dirs
-
--- plain words are directories, also with `--` behind the last; after a `--` that stands first, each word is a directory
-abbrev pub Spell : List Word → List Word → Type 0
-Spell words dirs =
-    (AllPlain dirs × ((words ≡ dirs) ⊎ (words ≡ dirs ++ codes "--" ∷ [])))
-    ⊎ (words ≡ codes "--" ∷ dirs)
+abbrev pub are_dirs : List Word → Bool
+are_dirs dirs = nat_le 1 (length dirs) && (nat_le (length dirs) most_dirs && (list_all is_named dirs && are_distinct dirs))

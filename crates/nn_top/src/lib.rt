@@ -2,6 +2,7 @@
 //! status. It knows neither how a command is done, nor real folders.
 #![tactic(auto)]
 
+pub mod laws;
 mod run;
 mod words;
 

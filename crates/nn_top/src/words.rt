@@ -1,17 +1,20 @@
 // The words of the command line.
-ghost use Rattle.std.specs.Prelude.{IfOk, ◌∷◌, ◌++◌, codes, MatchOption, ◌≡◌, ◌≢◌, ◌<◌, ◌≤◌, ◌↔◌, List, [], length, IsTrue, IfSome, IfNone, All, map};
-ghost use Rattle.std.specs.List.{AllPairs};
+ghost use Rattle.std.specs.Prelude.{IfOk, ◌∷◌, ◌++◌, codes, MatchOption, ◌≡◌, ◌≢◌, ◌<◌, ◌≤◌, ◌↔◌, List, [], length, IsTrue, IfSome, IfNone, true, false, map, Some, None, option_map, not};
+ghost use Rattle.std.specs.List.{list_all, list_any, prefix_len};
+ghost use Rattle.std.specs.Str.{bytes_eq};
 ghost use Rattle.std.specs.String.{string_bytes};
-ghost use Rattle.nn_top.specs.Words.{Word as W, texts, is_plain as plain, AreDirs, Spell};
-ghost use Rattle.nn_top.specs.FormatWords.{IsEnd};
+ghost use Rattle.nn_top.specs.Words.{Word as W, texts, is_plain, is_named, are_distinct, are_dirs};
+ghost use Rattle.nn_top.specs.Parts.{Dir, parts_of, is_line, is_dir, dirs_of};
+ghost use Rattle.nn_top.specs.FormatWords.{IsEnd, begins};
 ghost use Rattle.nn_top.specs.Wanted.{dirs_in};
-ghost use Rattle.nn_top.specs.Commands.{AskStates, AskNoStates, AskDry, Asks, HaveNoReading, wanted_in};
+ghost use Rattle.nn_top.specs.Commands.{states_in, dry_in, reading_of, HaveNoReading, wanted_in};
 
 mod format;
 mod options;
 
 use format::format_asked;
 use nn_base::Word;
+use nn_base::limits::MOST_DIRS;
 use std::alloc::{AllocError, Global};
 use thiserror::Error;
 
@@ -44,12 +47,9 @@ pub enum WordsFault {
     Memory,
 }
 
-// How many directories a command takes at most.
-const MOST_DIRS: usize = 8;
-
 /// The directories of the words, in the order of the words.
 pub fn dirs_of(alloc: Global, words: &[String]) -> Result<Vec<String>, WordsFault>
-    ensures ok { IfOk result (λ dirs. (wanted : _) × Asks (texts words.now) wanted × (texts dirs.items ≡ dirs_in wanted)) }
+    ensures ok { IfOk result (λ dirs. (wanted : _) × (reading_of (texts words.now) ≡ Some wanted) × (texts dirs.items ≡ dirs_in wanted)) }
     ensures usage { (result ≡ Err WordsFault.Usage) ↔ HaveNoReading (texts words.now) }
 {
     let Some(command) = command_of(words) else {
@@ -75,23 +75,20 @@ impl<'a> Command<'a> {
 
 /// The command that the words ask for, or none where they have no reading.
 pub fn command_of(words: &[String]) -> Option<Command<'_>>
-    ensures some { IfSome result (λ command. Asks (texts words.now) (wanted_in command)) }
+    ensures some { IfSome result (λ command. reading_of (texts words.now) ≡ Some (wanted_in command)) }
     ensures none { IfNone result (HaveNoReading (texts words.now)) }
 {
-    if let Some(dirs) = states_asked(words) {
-        return Some(Command::State { dirs });
+    let (command, later) = words.split_first()?;
+    if command.as_str() == "state" {
+        return states_asked(later);
     }
-    if is_dry(words) {
-        return Some(Command::Dry);
+    if command.as_str() == "format" {
+        return format_asked(later);
     }
-    match format_asked(words) {
-        Some((cluster, namespace, dirs)) => Some(Command::Format {
-            cluster,
-            namespace,
-            dirs,
-        }),
-        None => None,
+    if command.as_str() == "dry" {
+        return dry_asked(later);
     }
+    None
 }
 
 fn copied(alloc: Global, words: &[String]) -> Result<Vec<String>, AllocError>
@@ -104,27 +101,40 @@ fn copied(alloc: Global, words: &[String]) -> Result<Vec<String>, AllocError>
     Ok(copies)
 }
 
-/// The directories whose states the words ask for, or none where they ask for no states.
-pub fn states_asked(words: &[String]) -> Option<&[String]>
-    ensures asked { IfSome result (λ dirs. AskStates (texts words.now) (texts dirs.now)) }
-    ensures unread { IfNone result (AskNoStates (texts words.now)) }
+// `state` with the words behind it.
+fn states_asked(words: &[String]) -> Option<Command<'_>>
+    ensures { option_map wanted_in result ≡ states_in (parts_of [] (texts words.now)) }
 {
-    let (command, later) = words.split_first()?;
-    if command.as_str() != "state" {
-        return None;
+    let dirs = plain_dirs(words)?;
+    if are_dirs(dirs) {
+        Some(Command::State { dirs })
+    } else {
+        None
     }
-    let dirs = spelled(later)?;
-    if are_dirs(dirs) { Some(dirs) } else { None }
 }
 
-// Whether the words ask for `dry`, which takes no directories and no options.
-fn is_dry(words: &[String]) -> bool
-    ensures { IsTrue result ↔ AskDry (texts words.now) }
+// `dry` with the words behind it.
+fn dry_asked(words: &[String]) -> Option<Command<'_>>
+    ensures { option_map wanted_in result ≡ dry_in (parts_of [] (texts words.now)) }
 {
-    match words.split_first() {
-        Some((command, later)) => command.as_str() == "dry" && is_end(later),
-        None => false,
+    let dirs = plain_dirs(words)?;
+    if dirs.is_empty() {
+        Some(Command::Dry)
+    } else {
+        None
     }
+}
+
+// The directories of words that make a line without options.
+fn plain_dirs(words: &[String]) -> Option<&[String]>
+    ensures { MatchOption result (is_line (parts_of [] (texts words.now)) ≡ false)
+        (λ dirs. (is_line (parts_of [] (texts words.now)) ≡ true) × (dirs_of (parts_of [] (texts words.now)) ≡ texts dirs.now)) }
+{
+    if let Some(dirs) = after_mark(words) {
+        return Some(dirs);
+    }
+    let (dirs, rest) = plain_split(words);
+    if is_end(rest) { Some(dirs) } else { None }
 }
 
 // Whether nothing is left, or a last `--`.
@@ -135,18 +145,6 @@ fn is_end(words: &[String]) -> bool
         Some(later) => later.is_empty(),
         None => words.is_empty(),
     }
-}
-
-// The directories that these words spell.
-fn spelled(words: &[String]) -> Option<&[String]>
-    ensures some { IfSome result (λ dirs. Spell (texts words.now) (texts dirs.now)) }
-    ensures none { IfNone result ((dirs : List W) → Spell (texts words.now) dirs → ⊥) }
-{
-    if let Some(dirs) = after_mark(words) {
-        return Some(dirs);
-    }
-    let dirs = before_mark(words).unwrap_or(words);
-    if are_plain(dirs) { Some(dirs) } else { None }
 }
 
 // What stands behind a first `--`.
@@ -161,26 +159,26 @@ fn after_mark(words: &[String]) -> Option<&[String]>
     }
 }
 
-// What stands before a last `--`.
-fn before_mark(words: &[String]) -> Option<&[String]>
-    ensures { MatchOption result ((dirs : List W) → texts words.now ≢ dirs ++ codes "--" ∷ []) (λ dirs. texts words.now ≡ texts dirs.now ++ codes "--" ∷ []) }
+// The plain words that these words begin with, and the words behind those.
+fn plain_split(words: &[String]) -> (&[String], &[String])
+    ensures parts { (names : List W) → parts_of names (texts words.now) ≡ map Dir (texts result.0.now) ++ parts_of names (texts result.1.now) }
+    ensures rest { (names : List W) → begins is_dir (parts_of names (texts result.1.now)) ≡ false }
+    ensures none { texts result.0.now ≡ [] → texts result.1.now ≡ texts words.now }
 {
-    let (last, dirs) = words.split_last()?;
-    if last.as_str() == "--" {
-        Some(dirs)
-    } else {
-        None
-    }
+    words.split_at(plain_count(words))
 }
 
-fn are_plain(words: &[String]) -> bool
-    ensures { IsTrue result ↔ All (λ word. IsTrue (plain (string_bytes word))) words.now }
+fn plain_count(words: &[String]) -> usize
+    ensures { result ≡ prefix_len (λ word. is_plain (string_bytes word)) words.now }
 {
-    words.iter().all(|word| is_plain(word.as_bytes()))
+    words
+        .iter()
+        .take_while(|word| is_plain(word.as_bytes()))
+        .count()
 }
 
 fn is_plain(word: &[u8]) -> bool
-    ensures { result ≡ plain word.now }
+    ensures { result ≡ is_plain word.now }
 {
     match word {
         [] | [_] => true,
@@ -189,7 +187,7 @@ fn is_plain(word: &[u8]) -> bool
 }
 
 fn are_dirs(dirs: &[String]) -> bool
-    ensures { IsTrue result ↔ AreDirs (texts dirs.now) }
+    ensures { result ≡ are_dirs (texts dirs.now) }
 {
     if dirs.is_empty() || MOST_DIRS < dirs.len() {
         return false;
@@ -201,22 +199,22 @@ fn are_dirs(dirs: &[String]) -> bool
 }
 
 fn are_named(dirs: &[String]) -> bool
-    ensures { IsTrue result ↔ All (λ dir. string_bytes dir ≢ []) dirs.now }
+    ensures { result ≡ list_all (λ dir. is_named (string_bytes dir)) dirs.now }
 {
     dirs.iter().all(|dir| !dir.as_bytes().is_empty())
 }
 
 fn are_distinct(dirs: &[String]) -> bool
-    ensures { IsTrue result ↔ AllPairs (λ one other. string_bytes one ≢ string_bytes other) dirs.now }
+    ensures { result ≡ are_distinct (texts dirs.now) }
 {
     match dirs.split_first() {
-        Some((first, later)) => is_none_of(first.as_str(), later) && are_distinct(later),
+        Some((first, later)) => !is_among(first.as_str(), later) && are_distinct(later),
         None => true,
     }
 }
 
-fn is_none_of(dir: &str, others: &[String]) -> bool
-    ensures { IsTrue result ↔ All (λ other. dir.now ≢ string_bytes other) others.now }
+fn is_among(dir: &str, others: &[String]) -> bool
+    ensures { result ≡ list_any (λ other. bytes_eq dir.now (string_bytes other)) others.now }
 {
-    others.iter().all(|other| dir != other.as_str())
+    others.iter().any(|other| dir == other.as_str())
 }

@@ -1,46 +1,46 @@
 // The words of `format`.
-ghost use Rattle.std.specs.Prelude.{◌≡◌, ◌≢◌, ◌⊎◌, ◌<◌, ◌≤◌, ◌+◌, List, [], ◌∷◌, ◌++◌, codes, length, All, IsTrue, IfSome, IfNone, IsSomeAnd, MatchOption, ℕ, ◌↔◌};
-ghost use Rattle.std.specs.List.{prefix_len};
-ghost use Rattle.std.specs.String.{string_bytes};
-ghost use Rattle.nn_top.specs.Words.{Word as W, texts, AllPlain, is_plain as plain};
-ghost use Rattle.nn_top.specs.Options.{Given, spelling, values_of, IsTaken, SpellWith};
-ghost use Rattle.nn_top.specs.Commands.{FormatTakes, AskFormat, WritesNamespace};
-ghost use Rattle.nn_top.specs.FormatWords.{BeginWithNone, BeginUnplain, given_value, Adds, ReadOptions, GivenTwice, GivenOnce, SpellBack, SpellLine};
-ghost use Rattle.nn_base.specs.Words.{is_word};
+ghost use Rattle.std.specs.Prelude.{◌≡◌, ◌≢◌, ◌⊎◌, ◌<◌, ◌≤◌, ◌+◌, List, [], ◌∷◌, ◌++◌, codes, length, IfSome, IfNone, MatchOption, option_and_then, option_map, None, Some, false};
+ghost use Rattle.nn_top.specs.Words.{Word as W, texts};
+ghost use Rattle.nn_top.specs.Parts.{parts_of};
+ghost use Rattle.nn_top.specs.Commands.{once, cluster_in, namespace_in, format_in, format_options, wanted_in};
+ghost use Rattle.nn_top.specs.FormatWords.{begins, is_given, given_value, parts_left, Adds, ReadOptions, GivenTwice, ReadLine, IsUnread};
 
 use super::options::option_at;
-use super::{after_mark, are_dirs, is_end, is_plain};
+use super::{Command, after_mark, are_dirs, is_end, plain_split};
 use nn_base::{Word, decimal};
 
 // The largest number of a namespace, Java's largest `int`.
 const MAX_NAMESPACE: u64 = 2_147_483_647;
 
-/// The cluster's id, the namespace's number and the directories that the words ask to format.
-pub fn format_asked(words: &[String]) -> Option<(Word, u32, &[String])>
-    ensures some { IfSome result (λ asked. AskFormat (texts words.now) asked.0 asked.1 (texts asked.2.now)) }
-    ensures none { IfNone result ((cluster : W) (namespace : ℕ) (dirs : List W) → AskFormat (texts words.now) cluster namespace dirs → ⊥) }
+/// `format` with the words behind it.
+pub fn format_asked(words: &[String]) -> Option<Command<'_>>
+    ensures { option_map wanted_in result ≡ format_in (parts_of format_options (texts words.now)) }
 {
-    let (command, later) = words.split_first()?;
-    if command.as_str() != "format" {
-        return None;
-    }
-    let (line, dirs) = line_of(later)?;
+    let (line, dirs) = line_of(Line {
+        cluster: None,
+        namespace: None,
+        rest: words,
+    })?;
     if !are_dirs(dirs) {
         return None;
     }
     let cluster = cluster_of(line.cluster)?;
     let namespace = namespace_of(line.namespace)?;
-    Some((cluster, namespace, dirs))
+    Some(Command::Format {
+        cluster,
+        namespace,
+        dirs,
+    })
 }
 
 fn cluster_of(value: Option<&[u8]>) -> Option<Word>
-    ensures { MatchOption result ((cluster : W) → given_value value.entry ≡ cluster ∷ [] → IsTrue (is_word cluster) → ⊥) (λ cluster. (given_value value.entry ≡ cluster ∷ []) × IsTrue (is_word cluster)) }
+    ensures { result ≡ option_and_then cluster_in (once (given_value value.entry)) }
 {
     Word::of(value?)
 }
 
 fn namespace_of(value: Option<&[u8]>) -> Option<u32>
-    ensures { MatchOption result ((text : W) (namespace : ℕ) → given_value value.entry ≡ text ∷ [] → WritesNamespace text namespace → ⊥) (λ namespace. (text : W) × (given_value value.entry ≡ text ∷ []) × WritesNamespace text namespace) }
+    ensures { result ≡ option_and_then namespace_in (once (given_value value.entry)) }
 {
     let number = decimal::number(value?)?;
     if 1 <= number && number <= MAX_NAMESPACE {
@@ -58,28 +58,27 @@ struct Line<'a> {
     rest: &'a [String],
 }
 
-// The options and the directories that the words behind the command spell.
-fn line_of(words: &[String]) -> Option<(Line<'_>, &[String])>
-    ensures some { IfSome result (λ found. (given : List Given) × SpellLine (texts words.now) given found.0 (texts found.1.now)) }
-    ensures only { (given : List Given) (dirs : List W) → dirs ≢ [] → All (IsTaken FormatTakes) given → GivenOnce given → SpellWith (texts words.now) given dirs → IsSomeAnd result (λ found. (texts found.1.now ≡ dirs) × SpellLine (texts words.now) given found.0 dirs) }
+// The line read to its end, and its directories.
+fn line_of(line: Line<'_>) -> Option<(Line<'_>, &[String])>
+    ensures { MatchOption result (IsUnread line.entry) (λ found. ReadLine line.entry found.0 (texts found.1.now)) }
 {
-    let front = options_read(Line {
-        cluster: None,
-        namespace: None,
-        rest: words,
-    })?;
+    let front = options_read(line)?;
     match after_mark(front.rest) {
         Some(dirs) => Some((front, dirs)),
         None => plain_line(front),
     }
 }
 
-// The same where the directories stand before any `--`.
+// The same where neither an option nor `--` stands next.
 fn plain_line(front: Line<'_>) -> Option<(Line<'_>, &[String])>
-    ensures some { IfSome result (λ found. (back : List Given) × SpellBack (texts front.entry.rest.now) back (texts found.1.now) × Adds back front.entry found.0) }
-    ensures only { (back : List Given) (dirs : List W) → SpellBack (texts front.entry.rest.now) back dirs → (GivenTwice front.entry back → ⊥) → IsSomeAnd result (λ found. (texts found.1.now ≡ dirs) × Adds back front.entry found.0) }
+    requires ended { begins is_given (parts_left front) ≡ false }
+    requires unmarked { (dirs : List W) → texts front.rest.now ≢ codes "--" ∷ dirs }
+    ensures { MatchOption result (IsUnread front.entry) (λ found. ReadLine front.entry found.0 (texts found.1.now)) }
 {
     let (dirs, rest) = plain_split(front.rest);
+    if dirs.is_empty() {
+        return None;
+    }
     let back = options_read(Line { rest, ..front })?;
     if is_end(back.rest) {
         Some((back, dirs))
@@ -88,10 +87,10 @@ fn plain_line(front: Line<'_>) -> Option<(Line<'_>, &[String])>
     }
 }
 
-// Reads the options that the words now begin with, or none of them where one is given a second time.
+// Reads the options that stand next, or none of them where one is given a second time.
 fn options_read(line: Line<'_>) -> Option<Line<'_>>
-    ensures some { IfSome result (λ read. (given : List Given) × ReadOptions given line.entry read) }
-    ensures none { IfNone result ((given : List Given) (rest : List W) → All (IsTaken FormatTakes) given → texts line.entry.rest.now ≡ spelling given ++ rest → BeginWithNone FormatTakes rest → GivenTwice line.entry given) }
+    ensures some { IfSome result (ReadOptions line.entry) }
+    ensures none { IfNone result (GivenTwice line.entry (parts_left line.entry)) }
 {
     if let Some((value, rest)) = option_at(line.rest, b"--cluster") {
         if line.cluster.is_some() {
@@ -114,22 +113,4 @@ fn options_read(line: Line<'_>) -> Option<Line<'_>>
         });
     }
     Some(line)
-}
-
-// The plain words that these words begin with, and the words behind those.
-fn plain_split(words: &[String]) -> (&[String], &[String])
-    ensures plain { AllPlain (texts result.0.now) }
-    ensures rest { BeginUnplain (texts result.1.now) }
-    ensures both { texts words.now ≡ texts result.0.now ++ texts result.1.now }
-{
-    words.split_at(plain_count(words))
-}
-
-fn plain_count(words: &[String]) -> usize
-    ensures { result ≡ prefix_len (λ word. plain (string_bytes word)) words.now }
-{
-    words
-        .iter()
-        .take_while(|word| is_plain(word.as_bytes()))
-        .count()
 }

@@ -1,7 +1,7 @@
 // Options at the head of words.
 ghost use Rattle.std.specs.Prelude.{◌≡◌, List, [], ◌∷◌, ◌++◌, IsTrue, MatchOption};
 ghost use Rattle.nn_top.specs.Words.{Word as W, texts};
-ghost use Rattle.nn_top.specs.Options.{can_stand_apart as stands_apart};
+ghost use Rattle.nn_top.specs.Words.{can_stand_apart as stands_apart};
 ghost use Rattle.nn_top.specs.FormatWords.{BeginWith};
 
 /// The value with which the words give this option first of all, and the words behind it.

@@ -5,16 +5,16 @@ use Rattle.nn_files.specs.Untold.{unfailed_state}
 use Rattle.nn_host.specs.Moments.{State}
 use Rattle.nn_top.specs.Words.{texts}
 use Rattle.nn_top.specs.Wanted.{Wanted, dirs_in}
-use Rattle.nn_top.proofs.LineLemmas.{Asks-few, Asks-unique}
+use Rattle.nn_top.proofs.ReadingLemmas.{few_dirs, one_reading}
 use Rattle.nn_cli.proofs.ExitLemmas.{exits_starved, exits_done}
 use Rattle.nn_cli.proofs.real.run_over.Goals as goal
 
 pub open-requires : goal.open-requires
-open-requires g c = omega (arith, Asks-few (texts c.args.words.now) c.requires.0 c.requires.1, ap length c.requires.2, length-map c.args.dirs.items string_bytes)
+open-requires g c = omega (arith, few_dirs (texts c.args.words.now) c.requires.0 c.requires.1, ap length c.requires.2, length-map c.args.dirs.items string_bytes)
 
 pub namenode-requires : goal.namenode-requires
 namenode-requires g c = λ wanted asks.
-    let same = ap (λ (w : Wanted). length (dirs_in w)) (Asks-unique (texts c.args.words.now) c.requires.0 wanted c.requires.1 asks) in
+    let same = ap (λ (w : Wanted). length (dirs_in w)) (one_reading (texts c.args.words.now) c.requires.0 wanted c.requires.1 asks) in
     let count = ap (λ (s : State). s.count) c.in-Ok.ensures in
     omega (arith, same, count, ap length c.requires.2, length-map c.args.dirs.items string_bytes)
 

@@ -2,11 +2,12 @@ use Rattle.std.proofs.Common.{List, length, ap, ◌∙◌}
 use Rattle.std.specs.Prelude.{String}
 use Rattle.nn_files.specs.Untold.{unfailed_state}
 use Rattle.nn_top.specs.Words.{texts}
+use Rattle.nn_top.proofs.ReadingLemmas.{read_or_not}
 use Rattle.nn_cli.proofs.ExitLemmas.{exits_starved, exits_unread}
 use Rattle.nn_cli.proofs.real.run_unread.Goals as goal
 
 pub namenode-requires : goal.namenode-requires
-namenode-requires g c = λ wanted asks. absurd (c.requires wanted asks)
+namenode-requires g c = λ wanted asks. absurd (read_or_not (texts c.args.words.now) wanted asks c.requires)
 
 pub returns : goal.returns
 returns g c = exits_starved (texts c.args.words.now) c.starved.result c.starved.ensures

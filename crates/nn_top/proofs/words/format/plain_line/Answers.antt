@@ -1,30 +1,26 @@
 -- The directories end where the options behind them begin.
-use Rattle.std.proofs.Common.{sym, subst}
+use Rattle.std.proofs.Common.{inl, inr, sym, ◌∙◌, refl}
 use Rattle.std.proofs.lemmas.Bool.{both_ways}
 use Rattle.nn_top.specs.Words.{texts}
-use Rattle.nn_top.specs.FormatWords.{IsEnd, Adds}
-use Rattle.nn_top.proofs.FormatWordsLemmas.{back_found, none_at_end, one_spelling}
+use Rattle.nn_top.specs.Commands.{format_options}
+use Rattle.nn_top.specs.declared.words.format.Line.{Line}
+use Rattle.nn_top.proofs.FormatWordsLemmas.{plain_read, plain_twice, plain_unended}
+use Rattle.nn_top.proofs.WordsLemmas.{some_texts}
 use Rattle.nn_top.proofs.words.format.plain_line.Goals as goal
 
-pub returns-in_err-back-clause-only : goal.returns-in_err-back-clause-only
-returns-in_err-back-clause-only c =
+pub returns-in_err-back : goal.returns-in_err-back
+returns-in_err-back c =
+    let middle : Line = record c.args.front { rest = c.plain_split.result.1 } in
     rw c.from_residual.ensures
-    (λ back dirs spell once.
-    let found = back_found (texts c.args.front.rest.now) (texts c.plain_split.result.0.now) (texts c.plain_split.result.1.now) back dirs c.plain_split.ensures.plain c.plain_split.ensures.rest c.plain_split.ensures.both spell in
-    once (c.in_err-back.ensures.none back spell.end spell.taken found.1 (none_at_end spell.end spell.ends)))
+    (inr (inr (plain_twice c.args.front middle (texts c.plain_split.result.0.now) (c.plain_split.ensures.parts format_options) refl refl c.in_err-back.ensures.none)))
 
-pub returns-then-is_end-clause-only : goal.returns-then-is_end-clause-only
-returns-then-is_end-clause-only c =
-    λ back dirs spell once.
-    let found = back_found (texts c.args.front.rest.now) (texts c.plain_split.result.0.now) (texts c.plain_split.result.1.now) back dirs c.plain_split.ensures.plain c.plain_split.ensures.rest c.plain_split.ensures.both spell in
-    let read = c.in_ok-back.ensures.some in
-    let same = one_spelling read.0 back (texts c.plain_split.result.1.now) (texts c.in_ok-back.back.rest.now) spell.end read.1.taken spell.taken read.1.words found.1 read.1.ended (none_at_end spell.end spell.ends) in
-    (found.0, subst (λ given. Adds given c.args.front c.in_ok-back.back) same.0 (record { cluster = read.1.added.cluster; namespace = read.1.added.namespace }))
+pub returns-then-is_end : goal.returns-then-is_end
+returns-then-is_end c =
+    let middle : Line = record c.args.front { rest = c.plain_split.result.1 } in
+    plain_read c.args.front middle c.in_ok-back.back (texts c.plain_split.result.0.now) (c.plain_split.ensures.parts format_options) refl refl c.in_ok-back.ensures.some (c.is_end.ensures.0 c.if-is_end.true)
 
-pub returns-else-is_end-clause-only : goal.returns-else-is_end-clause-only
-returns-else-is_end-clause-only c =
-    λ back dirs spell once.
-    let found = back_found (texts c.args.front.rest.now) (texts c.plain_split.result.0.now) (texts c.plain_split.result.1.now) back dirs c.plain_split.ensures.plain c.plain_split.ensures.rest c.plain_split.ensures.both spell in
-    let read = c.in_ok-back.ensures.some in
-    let same = one_spelling read.0 back (texts c.plain_split.result.1.now) (texts c.in_ok-back.back.rest.now) spell.end read.1.taken spell.taken read.1.words found.1 read.1.ended (none_at_end spell.end spell.ends) in
-    both_ways _ c.if-is_end.false (c.is_end.ensures.1 (subst IsEnd (sym same.1) spell.ends))
+pub returns-else-is_end : goal.returns-else-is_end
+returns-else-is_end c =
+    let middle : Line = record c.args.front { rest = c.plain_split.result.1 } in
+    inl (plain_unended c.args.front middle c.in_ok-back.back (texts c.plain_split.result.0.now) (some_texts c.plain_split.result.0.now (sym c.is_empty.ensures ∙ c.if-is_empty.false)) (c.plain_split.ensures.parts format_options) (c.plain_split.ensures.rest format_options) c.in_ok-back.ensures.some
+    (λ end. both_ways _ c.if-is_end.false (c.is_end.ensures.1 end)))
