@@ -1,0 +1,16 @@
+pub mod LookingLemmas
+pub mod ListLemmas
+pub mod ServedLemmas
+pub mod MarksLemmas
+pub mod StatesLemmas
+pub mod VersionsLemmas
+pub mod FoundLemmas
+pub mod ClashLemmas
+pub mod LayoutLemmas
+pub mod AheadLemmas
+pub mod BestLemmas
+pub mod BetterLemmas
+pub mod ChosenLemmas
+pub mod SeenLemmas
+pub mod LoadingLemmas
+pub mod AnswerLemmas

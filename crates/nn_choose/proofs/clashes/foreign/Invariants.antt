@@ -1,0 +1,7 @@
+use Rattle.std.proofs.Common.{◌≡◌, None}
+use Rattle.nn_pick.specs.Refused.{first_refused}
+use Rattle.nn_choose.specs.Served.{served_at, foreign_in}
+use Rattle.nn_choose.proofs.clashes.foreign.Given as goal
+
+abbrev pub invariant-loop-i : goal.invariant-loop-i
+invariant-loop-i l = first_refused (λ i. foreign_in i (served_at l.served i)) l.i ≡ None

@@ -1,0 +1,4 @@
+pub mod Served
+pub mod Looking
+pub mod Picking
+pub mod Laws
