@@ -1,7 +1,7 @@
 -- Bringing a directory up to a namespace: what it is at each moment, and once it is done.
 use Rattle.std.proofs.Common.{◌≡◌, ◌≢◌, inl, inr, ℕ, Bool, true, false, Option, None, Result, Ok, Err, OnOk, is_some, refl, sym, ◌∙◌, ap, subst, arith, lt-ltb, le-ltb}
 use Rattle.nn_base.specs.declared.ids.DirNo.{DirNo}
-use Rattle.nn_base.specs.declared.sub.Sub.TheVariants.{Current}
+use Rattle.nn_base.specs.declared.sub.Sub.TheVariants.{Current, Previous}
 use Rattle.nn_base.specs.declared.file_name.FileName.{FileName}
 use Rattle.nn_base.specs.declared.file_name.FileName.TheVariants as name
 use Rattle.nn_base.specs.Names.{first_id}
@@ -29,7 +29,7 @@ use Rattle.nn_remake.specs.Publishing.{BesideImage, IsPublishing}
 use Rattle.nn_remake.specs.Published.{IsPublished, IsOnlyOf, ReadsIntact}
 use Rattle.nn_remake.specs.Clearing.{IsGivingUp, IsGivenUp, WasGivenUp}
 use Rattle.nn_remake.specs.Cutting.{IsCutting, IsCutDown, WasCutDown}
-use Rattle.nn_remake.specs.Topping.{KeptOrGivenUp, IsToppingUp, WasKeptOrGivenUp, IsBroughtTo}
+use Rattle.nn_remake.specs.Topping.{KeptOrGivenUp, SavedAsAsked, IsToppingUp, WasKeptOrGivenUp, WasToppedUp, IsBroughtTo}
 use Rattle.nn_remake.proofs.ClearingLemmas.{given_seven}
 
 -- ---- the saved state
@@ -70,20 +70,20 @@ topped_fits {version} {ns} {b} {c} d id i j same it normal fits cut publishing =
 
 -- ---- at each moment
 
-module _ {told : Type 0} {i : ℕ} {a b : State} (version : Version) (id : ℕ) (ns : Namespace) where
-  pub topping_given : OnlyAt told i a b (IsGivingUp (disk_at a i)) → OnlyAt told i a b (IsToppingUp version id ns (disk_at a i))
+module _ {told : Type 0} {i : ℕ} {a b : State} (saved : Bool) (version : Version) (id : ℕ) (ns : Namespace) where
+  pub topping_given : OnlyAt told i a b (IsGivingUp (disk_at a i)) → OnlyAt told i a b (IsToppingUp saved version id ns (disk_at a i))
   topping_given p = work_weaker p (λ tells d is. inl is)
 
-  module _ (given : OnlyAt told i a b (IsGivingUp (disk_at a i))) (was : told → WasKeptOrGivenUp i a b) where
-    pub topping_cut : {c : State} → OnlyAt told i b c (IsCutting id (disk_at b i)) → OnlyAt told i a c (IsToppingUp version id ns (disk_at a i))
-    topping_cut p = work_trans (topping_given given) (work_weaker p (λ tells d is. inr (inl (disk_at b i, (was tells).disk, is))))
+  module _ (given : OnlyAt told i a b (IsGivingUp (disk_at a i))) (was : told → WasKeptOrGivenUp i a b) (asked : told → SavedAsAsked saved (disk_at b i)) where
+    pub topping_cut : {c : State} → OnlyAt told i b c (IsCutting id (disk_at b i)) → OnlyAt told i a c (IsToppingUp saved version id ns (disk_at a i))
+    topping_cut p = work_trans (topping_given given) (work_weaker p (λ tells d is. inr (inl (disk_at b i, (was tells).disk, asked tells, is))))
 
-    topping_one : {c d : State} → OnlyAt told i b c (IsCutting id (disk_at b i)) → (told → WasCutDown id i b c) → OnlyAt told i c d (IsPublishing version id ns (disk_at c i)) → OnlyAt told i a d (IsToppingUp version id ns (disk_at a i))
-    topping_one {c} p cut q = work_trans (topping_cut p) (work_weaker q (λ tells x is. inr (inr (disk_at b i, disk_at c i, (was tells).disk, (cut tells).disk, is))))
+    topping_one : {c d : State} → OnlyAt told i b c (IsCutting id (disk_at b i)) → (told → WasCutDown id i b c) → OnlyAt told i c d (IsPublishing version id ns (disk_at c i)) → OnlyAt told i a d (IsToppingUp saved version id ns (disk_at a i))
+    topping_one {c} p cut q = work_trans (topping_cut p) (work_weaker q (λ tells x is. inr (inr (disk_at b i, disk_at c i, (was tells).disk, asked tells, (cut tells).disk, is))))
 
-pub topping_published : {told : Type 0} (version : Version) (id : ℕ) (ns : Namespace) (i j : DirNo) {a b c d : State} → i ≡ j → OnlyAt told j.0 a b (IsGivingUp (disk_at a j.0)) → (told → WasKeptOrGivenUp j.0 a b)
-    → OnlyAt told i.0 b c (IsCutting id (disk_at b i.0)) → (told → WasCutDown id i.0 b c) → OnlyAt told i.0 c d (IsPublishing version id ns (disk_at c i.0)) → OnlyAt told j.0 a d (IsToppingUp version id ns (disk_at a j.0))
-topping_published {told} version id ns i j {a} {b} {c} {d} same given was p cut q = topping_one version id ns given was
+pub topping_published : {told : Type 0} (saved : Bool) (version : Version) (id : ℕ) (ns : Namespace) (i j : DirNo) {a b c d : State} → i ≡ j → OnlyAt told j.0 a b (IsGivingUp (disk_at a j.0)) → (told → WasKeptOrGivenUp j.0 a b) → (told → SavedAsAsked saved (disk_at b j.0))
+    → OnlyAt told i.0 b c (IsCutting id (disk_at b i.0)) → (told → WasCutDown id i.0 b c) → OnlyAt told i.0 c d (IsPublishing version id ns (disk_at c i.0)) → OnlyAt told j.0 a d (IsToppingUp saved version id ns (disk_at a j.0))
+topping_published {told} saved version id ns i j {a} {b} {c} {d} same given was asked p cut q = topping_one saved version id ns given was asked
     (subst (λ (x : DirNo). OnlyAt told x.0 b c (IsCutting id (disk_at b x.0))) same p)
     (subst (λ (x : DirNo). told → WasCutDown id x.0 b c) same cut)
     (subst (λ (x : DirNo). OnlyAt told x.0 c d (IsPublishing version id ns (disk_at c x.0))) same q)
@@ -153,3 +153,10 @@ topped version id ns i j {a} {b} {c} {d} same lawful normal was cut published in
     brought_by version id ns {T = Unit {0}} j.0 b c d (Ok tt) down
     (subst (λ (x : DirNo). (disk_at c x.0).has Current ≡ true → IsPublished version id ns x.0 c d) same published there)
     (subst (λ (x : DirNo). (disk_at c x.0).has Current ≡ true → IsOnlyOf version id ns x.0 c → ReadsIntact version id ns x.0 d) same intact there (only_kept version id ns j.0 a b c was down only))
+
+pub topped_up : (saved : Bool) (version : Version) (id : ℕ) (ns : Namespace) (i j : DirNo) {a b c d : State} → i ≡ j → IsLawful a → IsIn Normal (disk_at a j.0) → WasKeptOrGivenUp j.0 a b → SavedAsAsked saved (disk_at b j.0) → WasCutDown id i.0 b c
+    → ((disk_at c i.0).has Current ≡ true → IsPublished version id ns i.0 c d) → WasToppedUp saved version id ns j.0 a d
+topped_up saved version id ns i j {a} {b} {c} {d} same lawful normal was asked cut published =
+    let down = subst (λ (x : DirNo). WasCutDown id x.0 b c) same cut in
+    let there = current_there j.0 a b c was down (normal_current (disk_at a j.0) (lawful.disks j.0) normal) in
+    record { mid = b; low = c; kept = was; asked = asked; cut = down; published = subst (λ (x : DirNo). (disk_at c x.0).has Current ≡ true → IsPublished version id ns x.0 c d) same published there }

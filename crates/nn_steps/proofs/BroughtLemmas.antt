@@ -1,10 +1,15 @@
 -- A directory that is topped up: its previous is given up unless it is to stay, `current` is cut down, and the floor's image is published.
-use Rattle.std.proofs.Common.{true, false, ◌≡◌, ◌≢◌, inl, inr, ℕ, Bool, Option, None, refl, sym, ◌∙◌, ap, subst, arith}
+use Rattle.std.proofs.Common.{false, ◌≡◌, ◌≢◌, ◌⊎◌, inl, inr, ⊎_elim, ℕ, Bool, List, Option, Some, None, refl, sym, ◌∙◌, ap, subst, arith}
 use Rattle.std.specs.Prelude.{is_some, Result}
-use Rattle.nn_tree.specs.Namespace.{Namespace}
-use Rattle.nn_base.specs.declared.sub.Sub.TheVariants.{Current, Previous, PreviousTmp, RemovedTmp, LastCheckpointTmp}
+use Rattle.std.proofs.lemmas.Bool.{le-ltb}
+use Rattle.md5.specs.Md5.{md5}
+use Rattle.nn_base.specs.declared.sub.Sub.TheVariants.{Current, Previous}
+use Rattle.nn_base.specs.declared.file_name.FileName.{FileName}
 use Rattle.nn_base.specs.declared.file_name.FileName.TheVariants as name
-use Rattle.nn_host.specs.Disk.{Held, Disk, Reads, File}
+use Rattle.nn_host.specs.Disk.{Held, Disk, Reads, File, Leaves, certain}
+use Rattle.nn_host.specs.Moments.{State, disk_at}
+use Rattle.nn_host.proofs.CleanLemmas.{reading, sure_left}
+use Rattle.nn_marks.specs.Digest.{md5_text_of}
 use Rattle.nn_marks.specs.declared.version.Version.{Version}
 use Rattle.nn_state.specs.declared.state.Seven.{Seven}
 use Rattle.nn_state.specs.declared.state.StorageState.{StorageState}
@@ -13,23 +18,27 @@ use Rattle.nn_state.specs.declared.state.Why.{Why}
 use Rattle.nn_state.specs.Table.{seven_of, table_of}
 use Rattle.nn_state.specs.Seat.{seat_by, seat_of, if_there, saved}
 use Rattle.nn_state.specs.Typed.{IsIn}
-use Rattle.nn_state.proofs.TableLemmas.{at_rest, normal_seven, table_at_rest}
+use Rattle.nn_tree.specs.Namespace.{Namespace}
 use Rattle.nn_chain.specs.Folder.{Folder, HasVersion, folder_at}
-use Rattle.nn_remake.specs.Clearing.{IsGivingUp, IsGivenUp}
+use Rattle.nn_chain.specs.Images.{HasIntact}
+use Rattle.nn_remake.specs.Clearing.{IsGivingUp}
 use Rattle.nn_remake.specs.Cutting.{IsCutting, IsCutDown}
-use Rattle.nn_remake.specs.Topping.{KeptOrGivenUp, IsToppingUp, IsBroughtTo}
+use Rattle.nn_remake.specs.Removing.{is_segment, is_later_image}
+use Rattle.nn_remake.specs.Topping.{KeptOrGivenUp, SavedAsAsked, WasToppedUp}
 use Rattle.nn_remake.proofs.ClearingLemmas.{giving_keeps}
 use Rattle.nn_remake.proofs.LeftLemmas.{seven_left}
 use Rattle.nn_remake.proofs.TableLemmas.{seven_by}
+use Rattle.nn_remake.proofs.ToppingLemmas.{given_normal}
 use Rattle.nn_kept.specs.Kept.{Shared}
-use Rattle.nn_kept.specs.Laws.{IsOutranked, EachLeft}
+use Rattle.nn_kept.specs.Laws.{EachLeft}
 use Rattle.nn_kept.proofs.KeptOnwardLemmas.{version_there}
-use Rattle.nn_steps.specs.Steps.{StaysBehind, IsToTopUp, ToppingUpKeeps, ToppedUpEnds}
-use Rattle.nn_steps.proofs.SeatLemmas.{left_cut}
+use Rattle.nn_steps.specs.Steps.{StaysBehind, IsToTopUp, IsSure, ToppingUpKeeps, ToppedUpEnds}
+use Rattle.nn_steps.proofs.SeatLemmas.{left_cut, reads_whole, reads_fair}
 use Rattle.nn_steps.proofs.NormalLemmas.{current_serves, is_current}
+use Rattle.nn_steps.proofs.LoweringLemmas.{some_chain}
 use Rattle.nn_steps.proofs.ClearedLemmas.{giving_up_keeps}
 use Rattle.nn_steps.proofs.CutLemmas.{cutting_keeps, cutting_part, part_left, part_same}
-use Rattle.nn_steps.proofs.ToppedLemmas.{IsCutLow, publishing_tops, top_left, marks}
+use Rattle.nn_steps.proofs.ToppedLemmas.{IsCutLow, whole_ends, publishing_tops}
 
 saves_by : {A : Type 0} (d : Held A) → IsIn Normal d → saved d ≡ if_there (d.has Previous) Previous
 saves_by d normal = ap (λ (r : Result StorageState Why). (seat_by r (seven_of d)).previous) normal
@@ -46,23 +55,6 @@ record IsMid (shared : Shared) (version : Version) (d : Disk) : Type 0 where
   says : EachLeft d (λ c. HasVersion (folder_at c Current) version)
   saves : saved d ≢ None → shared.saved version.ctime ≢ None
 
-module _ (old mid : Disk) (normal : IsIn Normal old) (is : IsGivenUp old mid) where
-  given_seven : seven_of mid ≡ at_rest true false
-  given_seven =
-      let e = normal_seven (seven_of old) normal in
-      λ k. record {
-        root = (is.giving.root ∙ ap (λ (s : Seven). s.root) e) k;
-        current = (ap (λ (o : Option File). is_some o) (is.giving.files Current name.Version (λ x. cc) (λ x. cc)) ∙ ap (λ (s : Seven). s.current) e) k;
-        previous = is.previous k;
-        previous_tmp = (is.giving.subs PreviousTmp (λ x. cc) (λ x. cc) ∙ ap (λ (s : Seven). s.previous_tmp) e) k;
-        removed_tmp = (is.giving.subs RemovedTmp (λ x. cc) (λ x. cc) ∙ ap (λ (s : Seven). s.removed_tmp) e) k;
-        finalized_tmp = is.tmp k;
-        last_checkpoint_tmp = (is.giving.subs LastCheckpointTmp (λ x. cc) (λ x. cc) ∙ ap (λ (s : Seven). s.last_checkpoint_tmp) e) k;
-      }
-
-  given_normal : IsIn Normal mid
-  given_normal = ap table_of given_seven ∙ table_at_rest false
-
 giving_says : (version : Version) (old mid : Disk) → IsIn Normal old → IsIn Normal mid → IsGivingUp old mid → EachLeft old (λ c. HasVersion (folder_at c Current) version) → EachLeft mid (λ c. HasVersion (folder_at c Current) version)
 giving_says version old mid normal there is says c leaves fair =
     let keeps = giving_keeps old mid (inl normal) is in
@@ -72,14 +64,16 @@ giving_says version old mid normal there is says c leaves fair =
     let same = is_current c here (folder_at it.before Current) (it.current (folder_at it.before Current) (current_serves it.before before)) in
     subst (λ (f : Folder). HasVersion f version) same (says it.before it.left (it.fair fair))
 
-mid_fits : (shared : Shared) (version : Version) (id : ℕ) (old mid : Disk) → IsToTopUp shared version id old → KeptOrGivenUp old mid → IsMid shared version mid
-mid_fits shared version id old mid fits (inl same) = subst (IsMid shared version) (sym same) (record { normal = fits.normal; behind = fits.behind; says = fits.says; saves = fits.saves })
-mid_fits shared version id old mid fits (inr given) = record {
-  normal = given_normal old mid fits.normal given;
-  behind = giving_up_keeps shared old mid (inl fits.normal) fits.behind given.giving;
-  says = giving_says version old mid fits.normal (given_normal old mid fits.normal given) given.giving fits.says;
-  saves = λ has. absurd (has (unsaved_by mid (given_normal old mid fits.normal given) given.previous));
+mid_fits : (shared : Shared) (keep : Bool) (version : Version) (id : ℕ) (old mid : Disk) → IsToTopUp shared keep version id old → KeptOrGivenUp old mid → SavedAsAsked keep mid → IsMid shared version mid
+mid_fits shared keep version id old mid fits kept asked = record {
+  normal = normal;
+  behind = ⊎_elim (λ same. subst (StaysBehind shared) (sym same) fits.behind) (λ given. giving_up_keeps shared old mid (inl fits.normal) fits.behind given.giving) kept;
+  says = ⊎_elim (λ same. subst (λ (d : Disk). EachLeft d (λ c. HasVersion (folder_at c Current) version)) (sym same) fits.says) (λ given. giving_says version old mid fits.normal normal given.giving fits.says) kept;
+  saves = λ has. ⊎_elim (λ stays. fits.saves stays) (λ none. absurd (has (unsaved_by mid normal none))) asked;
 }
+  where
+    normal : IsIn Normal mid
+    normal = ⊎_elim (λ same. subst (λ (d : Disk). IsIn Normal d) (sym same) fits.normal) (λ given. given_normal old mid fits.normal given) kept
 
 -- ---- while it is cut down, and once it is
 
@@ -106,36 +100,60 @@ low_fits shared version id mid low fits is ctime last = record {
 }
 
 pub topping_up_keeps : ToppingUpKeeps
-topping_up_keeps shared version id old d fits (inl giving) = inl (giving_up_keeps shared old d (inl fits.normal) fits.behind giving)
-topping_up_keeps shared version id old d fits (inr (inl cutting)) =
-    let mid = mid_fits shared version id old cutting.0 fits cutting.1 in
-    inl (cutting_keeps shared id cutting.0 d mid.normal mid.behind cutting.2)
-topping_up_keeps shared version id old d fits (inr (inr last)) =
-    let mid = mid_fits shared version id old last.0 fits last.2 in
-    publishing_tops shared version id last.1 d (low_fits shared version id last.0 last.1 mid last.3 fits.ctime fits.last) last.4
+topping_up_keeps shared keep version id old d fits (inl giving) = inl (giving_up_keeps shared old d (inl fits.normal) fits.behind giving)
+topping_up_keeps shared keep version id old d fits (inr (inl cutting)) =
+    let mid = mid_fits shared keep version id old cutting.0 fits cutting.1 cutting.2 in
+    inl (cutting_keeps shared id cutting.0 d mid.normal mid.behind cutting.3)
+topping_up_keeps shared keep version id old d fits (inr (inr last)) =
+    let mid = mid_fits shared keep version id old last.0 fits last.2 last.3 in
+    publishing_tops shared version id last.1 d (low_fits shared version id last.0 last.1 mid last.4 fits.ctime fits.last) last.5
 
 -- ---- once it is done
 
--- its VERSION stays at each of the three stages
-topping_says : (shared : Shared) (version : Version) (id : ℕ) (ns : Namespace) (old d : Disk) → IsToTopUp shared version id old → IsIn Normal d → IsToppingUp version id ns old d → EachLeft d (λ c. HasVersion (folder_at c Current) version)
-topping_says shared version id ns old d fits normal (inl giving) = giving_says version old d fits.normal normal giving fits.says
-topping_says shared version id ns old d fits normal (inr (inl cutting)) = cutting_says version id cutting.0 d cutting.2 (mid_fits shared version id old cutting.0 fits cutting.1).says
-topping_says shared version id ns old d fits normal (inr (inr last)) = λ c leaves fair. (
-    let mid = mid_fits shared version id old last.0 fits last.2 in
-    let low = low_fits shared version id last.0 last.1 mid last.3 fits.ctime fits.last in
-    let it = top_left id last.1 d last.4.beside c leaves in
-    version_there (folder_at it.before Current) (folder_at c Current) version (sym (marks id last.1 d last.4.beside c leaves).version) (low.says it.before it.left (it.fair fair))
-    )
+not_later : (id : ℕ) → is_later_image id (name.Image id) ≡ false
+not_later id = le-ltb id id (omega arith)
 
--- what is left behind wasn't brought to the floor
-not_behind : (shared : Shared) (version : Version) (id : ℕ) (c : Reads) → version.ctime ≡ shared.floor.ctime → shared.floor.last ≡ id → IsIn Normal c → HasVersion (folder_at c Current) version → IsBroughtTo version id (shared.ns version.ctime id) c → ¬ IsOutranked shared c
-not_behind shared version id c ctime last normal says brought low = elim (low version (folder_at c Current) (record { serves = current_serves c normal; says = says })) [
-  | inl less ↦ omega (arith, less, ctime)
-  | inr level ↦ (let below = level.1 (record { last = id; ns = shared.ns version.ctime id }) brought.chain in omega (arith, below, last))
-]
+-- a directory left behind has no intact image of the floor that a stop keeps
+not_there : (shared : Shared) (version : Version) (id : ℕ) (d : Disk) → IsCutLow shared version id d → ((c : Reads) → Leaves d c → HasIntact (folder_at c Current) version id) → ⊥
+not_there shared version id d fits intact =
+    let c = reading d in
+    let leaves = reads_whole d in
+    let normal : IsIn Normal c = ap table_of (seven_left d c leaves) ∙ fits.normal in
+    let says = fits.says c leaves (reads_fair d) in
+    let low = (fits.behind c leaves (reads_fair d)).1 version (folder_at c Current) (record { serves = current_serves c normal; says = says }) in
+    let ctime = fits.ctime in
+    let last = fits.last in
+    elim low [
+      | inl less ↦ omega (arith, less, ctime)
+      | inr level ↦ some_chain (folder_at c Current) version id (intact c leaves) (λ end chain high. (let below = level.1 end chain in omega (arith, below, high, last)))
+    ]
+
+module _ (keep : Bool) (version : Version) (id : ℕ) (ns : Namespace) (i : ℕ) (old new : State) (is : WasToppedUp keep version id ns i old new) (sure : IsSure Current i old) where
+  -- a file that stays is certain still
+  sure_still : (n : FileName) (bytes : List ℕ) → is_segment n ≡ false → is_later_image id n ≡ false → (is.low.reads i).file Current n ≡ Some bytes → (disk_at is.low i).file Current n ≡ certain (Some bytes)
+  sure_still n bytes segment later there =
+      let disk_mid = ⊎_elim (λ same. ap (λ (d : Disk). d.file Current n) same) (λ given. given.giving.files Current n (λ e. cc) (λ e. cc)) is.kept.disk in
+      let reads_mid = ⊎_elim (λ same. ap (λ (r : Reads). r.file Current n) same) (λ given. given.giving.files Current n (λ e. cc) (λ e. cc)) is.kept.reads in
+      let disk_low = is.cut.disk.cutting.others n segment later in
+      let reads_low = is.cut.reads.cutting.others n segment later in
+      disk_low ∙ disk_mid ∙ sure n ∙ ap certain (sym (reads_low ∙ reads_mid) ∙ there)
+
+  intact_left : HasIntact (folder_at (is.low.reads i) Current) version id → (c : Reads) → Leaves (disk_at is.low i) c → HasIntact (folder_at c Current) version id
+  intact_left (ns, intact) c leaves = (
+    ns,
+    record {
+      bytes = intact.bytes;
+      there = sure_left (disk_at is.low i) c Current (name.Image id) intact.bytes leaves (sure_still (name.Image id) intact.bytes refl (not_later id) intact.there);
+      digest = sure_left (disk_at is.low i) c Current (name.Md5 id) (md5_text_of (md5 intact.bytes) id) leaves (sure_still (name.Md5 id) (md5_text_of (md5 intact.bytes) id) refl refl intact.digest);
+      image = intact.image;
+    },
+  )
 
 pub topped_up_ends : ToppedUpEnds
-topped_up_ends shared version id old d c fits is normal leaves fair brought = elim (topping_up_keeps shared version id old d fits is) [
-  | inr ends ↦ ends
-  | inl behind ↦ absurd (not_behind shared version id c fits.ctime fits.last (ap table_of (seven_left d c leaves) ∙ normal) (topping_says shared version id (shared.ns version.ctime id) old d fits normal is c leaves fair) brought (behind c leaves fair).1)
-]
+topped_up_ends shared keep version id i old new fits sure is =
+    let mid = mid_fits shared keep version id (disk_at old i) (disk_at is.mid i) fits is.kept.disk is.asked in
+    let low = low_fits shared version id (disk_at is.mid i) (disk_at is.low i) mid is.cut.disk fits.ctime fits.last in
+    elim is.published [
+      | inl missing ↦ whole_ends shared version id (disk_at is.low i) (disk_at new i) low missing.written.disk.beside (record { bytes = missing.written.bytes; image = missing.written.image; stands = missing.written.disk.stands })
+      | inr there ↦ absurd (not_there shared version id (disk_at is.low i) low (intact_left keep version id (shared.ns version.ctime id) i old new is sure there.intact))
+    ]

@@ -1,5 +1,5 @@
 -- What each durable step on a directory keeps: from what it says of the one disk at each moment to what a run keeps of that disk.
-use Rattle.std.specs.Prelude.{◌≡◌, ◌≢◌, ◌⊎◌, None, ℕ, ◌<◌, ◌≤◌, ◌^◌, Bool, false, Option, is_some, Some}
+use Rattle.std.specs.Prelude.{◌≡◌, ◌≢◌, ◌⊎◌, None, ℕ, ◌<◌, ◌≤◌, ◌^◌, Bool, false, Option, is_some, Some, true}
 use Rattle.nn_base.specs.Limits.{program_layout}
 use Rattle.nn_base.specs.declared.sub.Sub.{Sub}
 use Rattle.nn_base.specs.declared.file_name.FileName.{FileName}
@@ -13,13 +13,12 @@ use Rattle.nn_state.specs.Typed.{IsIn, FitsFresh}
 use Rattle.nn_state.specs.Recovery.{KeepsSeat, WasRecovered}
 use Rattle.nn_tree.specs.Namespace.{Namespace}
 use Rattle.nn_chain.specs.Folder.{HasVersion, folder_at}
-use Rattle.nn_chain.specs.Fair.{IsFair}
 use Rattle.nn_chain.specs.Images.{IsIntact}
 use Rattle.nn_segment_file.specs.Steps.{Logged}
 use Rattle.nn_remake.specs.Clearing.{IsAtRest, IsGivingUp, IsClearing}
 use Rattle.nn_remake.specs.Made.{IsMade, FreshOrMade}
 use Rattle.nn_remake.specs.Published.{IsPublished, IsOnlyOf}
-use Rattle.nn_remake.specs.Topping.{IsToppingUp, IsBroughtTo}
+use Rattle.nn_remake.specs.Topping.{IsToppingUp, WasToppedUp}
 use Rattle.nn_remake.specs.Rank.{IsRanked}
 use Rattle.nn_kept.specs.Kept.{Shared, IsKept}
 use Rattle.nn_kept.specs.Laws.{IsOutranked, EachLeft, IsKeptDisk}
@@ -88,14 +87,14 @@ SettledStaysBehind = (shared : Shared) (d : Disk) (r : Reads) → Leaves d r →
 abbrev pub GivingUpKeeps : Type 0
 GivingUpKeeps = (shared : Shared) (old d : Disk) → IsAtRest old → StaysBehind shared old → IsGivingUp old d → StaysBehind shared d
 
--- a directory left behind, of the floor's cTime and under this VERSION, that is to be brought up to the floor, and has a previous only where something is saved
-pub record IsToTopUp (shared : Shared) (version : Version) (id : ℕ) (d : Disk) : Type 0 where
+-- a directory left behind, of the floor's cTime and under this VERSION, that is to be brought up to the floor, its previous kept only where something is saved
+pub record IsToTopUp (shared : Shared) (keep : Bool) (version : Version) (id : ℕ) (d : Disk) : Type 0 where
   pub normal : IsIn Normal d
   pub behind : StaysBehind shared d
   pub says : EachLeft d (λ c. HasVersion (folder_at c Current) version)
   pub ctime : version.ctime ≡ shared.floor.ctime
   pub last : shared.floor.last ≡ id
-  pub saves : saved d ≢ None → shared.saved version.ctime ≢ None
+  pub saves : keep ≡ true → shared.saved version.ctime ≢ None
 
 -- it ends at the floor
 abbrev pub EndsAtFloor : Shared → Version → ℕ → Disk → Type 0
@@ -103,12 +102,12 @@ EndsAtFloor shared version id d = EndsBetween version (is_some (saved d)) (share
 
 -- At each moment of its topping up it stays behind, or it ends at the floor.
 abbrev pub ToppingUpKeeps : Type 0
-ToppingUpKeeps = (shared : Shared) (version : Version) (id : ℕ) (old d : Disk) → IsToTopUp shared version id old → IsToppingUp version id (shared.ns version.ctime id) old d → StaysBehind shared d ⊎ EndsAtFloor shared version id d
+ToppingUpKeeps = (shared : Shared) (keep : Bool) (version : Version) (id : ℕ) (old d : Disk) → IsToTopUp shared keep version id old → IsToppingUp keep version id (shared.ns version.ctime id) old d → StaysBehind shared d ⊎ EndsAtFloor shared version id d
 
--- It does end there, where one thing that a fair stop may leave of it was brought to the floor.
+-- Once it was topped up it ends there, if its files were certain.
 abbrev pub ToppedUpEnds : Type 0
-ToppedUpEnds = (shared : Shared) (version : Version) (id : ℕ) (old d : Disk) (c : Reads) → IsToTopUp shared version id old → IsToppingUp version id (shared.ns version.ctime id) old d
-    → IsIn Normal d → Leaves d c → IsFair d c → IsBroughtTo version id (shared.ns version.ctime id) c → EndsAtFloor shared version id d
+ToppedUpEnds = (shared : Shared) (keep : Bool) (version : Version) (id : ℕ) (i : ℕ) (old new : State) → IsToTopUp shared keep version id (disk_at old i) → IsSure Current i old → WasToppedUp keep version id (shared.ns version.ctime id) i old new
+    → EndsAtFloor shared version id (disk_at new i)
 
 -- ---- a directory whose previous is given up
 

@@ -66,7 +66,7 @@ pub fn a_directory_in_topping_up_stays_behind_or_ends()
     ensures { ToppingUpKeeps }
 {}
 
-/// A directory that was topped up ends at the floor in whatever a fair stop leaves, where it does so in one such thing.
+/// A directory that was topped up ends at the floor, if its files were certain.
 pub fn a_topped_up_directory_ends()
     ensures { ToppedUpEnds }
 {}
