@@ -12,6 +12,3 @@ pub mod RemovingLemmas
 pub mod CuttingLemmas
 pub mod CuttingCallLemmas
 pub mod ToppingLemmas
-pub mod NotRaisedLemmas
-pub mod MixedLemmas
-pub mod LaggingLemmas

@@ -7,4 +7,3 @@ pub mod Clearing
 pub mod Removing
 pub mod Cutting
 pub mod Topping
-pub mod Lagging

@@ -6,7 +6,6 @@
 mod clearing;
 mod cutting;
 mod fault;
-mod laws;
 mod making;
 mod publishing;
 mod removing;
@@ -15,10 +14,6 @@ mod topping;
 
 pub use clearing::clear;
 pub use fault::MakeFault;
-pub use laws::{
-    a_folder_that_is_cut_down_ranks_no_higher,
-    a_folder_that_is_topped_up_ranks_no_higher_or_is_brought_up,
-};
 pub use making::make;
 pub use publishing::publish;
 pub use topping::top_up;
