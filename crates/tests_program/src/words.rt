@@ -57,6 +57,58 @@ const FORMAT: [(&str, Option<&str>); 26] = [
     ("state --cluster c1 --namespace 7 A", None),
 ];
 
+// Odd lines of each command.
+const ODD: [(&str, Option<&str>); 42] = [
+    ("state -- A -- B", Some("A -- B")),
+    ("state -- --", Some("--")),
+    ("state A -- --", None),
+    ("state A --", Some("A")),
+    ("state A A --", None),
+    ("state -- A A", None),
+    ("state -- ", None),
+    ("state A  B", None),
+    ("state -", Some("-")),
+    ("state - -", None),
+    ("state --A", None),
+    ("state -- --A -", Some("--A -")),
+    ("state A -B", None),
+    ("state -- a b c d e f g h", Some("a b c d e f g h")),
+    ("state -- a b c d e f g h i", None),
+    ("State A", None),
+    (" state A", None),
+    ("-- state A", None),
+    ("--cluster c1 --namespace 7 format A", None),
+    ("format A --cluster c1 --namespace 7", Some("A")),
+    ("format A B --namespace=7 --cluster=c1 --", Some("A B")),
+    (
+        "format --cluster c1 --namespace 7 -- A --cluster c2",
+        Some("A --cluster c2"),
+    ),
+    ("format A --cluster c1 -- --namespace 7", None),
+    ("format --cluster c1 -- A --namespace 7", None),
+    ("format --cluster c1 A --namespace 7 -- B", None),
+    ("format A --cluster c1 B --namespace 7", None),
+    ("format --cluster -- c1 --namespace 7 A", None),
+    ("format --namespace 7 A --cluster", None),
+    ("format --namespace 7 --cluster A", None),
+    ("format --cluster=a=b --namespace=7 A", Some("A")),
+    ("format --cluster=- --namespace=7 A", Some("A")),
+    ("format --cluster=--namespace=7 --namespace=7 A", Some("A")),
+    ("format --clusters=c1 --namespace 7 A", None),
+    ("format --clusterc1 --namespace 7 A", None),
+    ("format -cluster c1 --namespace 7 A", None),
+    ("format --cluster c1 --namespace 7 - A", Some("- A")),
+    (
+        "format --cluster c1 --namespace 7 a b c d e f g h",
+        Some("a b c d e f g h"),
+    ),
+    ("format --cluster c1 --namespace 7 A B A", None),
+    ("format --cluster c1 --namespace 7 --", None),
+    ("format --cluster c1 --namespace 7 --namespace=7 A", None),
+    ("format --cluster c1 --namespace +7 A", None),
+    ("format  --cluster c1 --namespace 7 A", None),
+];
+
 fn split(alloc: Global, line: &str) -> Result<Vec<String>, AllocError> {
     let mut words = Vec::new(alloc);
     for word in line.split(' ') {
@@ -88,6 +140,18 @@ fn words_give_their_directories_or_usage(rt: HostRuntime) -> Result<(), Fail> {
         }
     }
     assert_eq!(rt; dirs_of(rt.alloc(), &[]).err(), Some(WordsFault::Usage));
+    Ok(())
+}
+
+#[test]
+fn odd_lines_are_read_as_any_other(rt: HostRuntime) -> Result<(), Fail> {
+    for (line, dirs) in &ODD {
+        let found = dirs_of(rt.alloc(), &split(rt.alloc(), line)?);
+        match dirs {
+            Some(dirs) => assert_eq!(rt; found?, split(rt.alloc(), dirs)?, "{line}"),
+            None => assert_eq!(rt; found.err(), Some(WordsFault::Usage), "{line}"),
+        }
+    }
     Ok(())
 }
 
