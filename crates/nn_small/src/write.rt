@@ -1,9 +1,10 @@
 // Writing a small file.
-ghost use Rattle.std.specs.Prelude.{◌≡◌, ◌≢◌, ◌<◌, true, OnOk};
-ghost use Rattle.nn_host.specs.Moments.{disk_at};
+ghost use Rattle.std.specs.Prelude.{◌≡◌, ◌≢◌, ◌+◌, ◌<◌, ◌≤◌, true, OnOk};
+ghost use Rattle.nn_host.specs.Moments.{disk_at, moment};
 ghost use Rattle.nn_host.specs.Calls.{IsCounted};
 ghost use Rattle.nn_host.specs.Runs.{OnlyAt};
 ghost use Rattle.nn_small.specs.Small.{OldOrNew, Written};
+ghost use Rattle.nn_small.specs.Failure.{EndsByFailure};
 
 use nn_base::{DirNo, FileName, Sub};
 use nn_host::{Failed, Host};
@@ -25,6 +26,8 @@ pub fn write_small<H: Host>(
     requires apart { tmp ≢ name }
     ensures ok { H.told → (disk_at (H.state host.old) i.0).has sub ≡ true → OnOk result (Written i.0 sub tmp name bytes.now (H.state host.old) (H.state host.new)) }
     ensures any_moment { OnlyAt H.told i.0 (H.state host.old) (H.state host.new) (OldOrNew sub tmp name bytes.now (disk_at (H.state host.old) i.0)) }
+    ensures still { EndsByFailure H.told i.0 (H.state host.old) (H.state host.new) }
+    ensures calls { H.told → moment (H.state host.new) ≤ moment (H.state host.old) + 4 }
     ensures cause { IsCounted i.0 (H.state host.old) (H.state host.new) result }
 {
     // Lent, since each is passed more than once.
