@@ -13,7 +13,7 @@ first_apart : (r : Record) (rs : List Record) (rest : List ℕ) → spelled (r �
 unfolding spelled
 first_apart r rs rest = append_assoc (spelling r) (spelled rs) rest
 
-fewer_begin : (first : ℕ) (rs qs : List Record) (rest after : List ℕ) → AreFrom first rs → AreFrom first qs → spelled rs ++ rest ≡ spelled qs ++ after → length rs ≤ length qs → IsPrefix rs qs
+pub fewer_begin : (first : ℕ) (rs qs : List Record) (rest after : List ℕ) → AreFrom first rs → AreFrom first qs → spelled rs ++ rest ≡ spelled qs ++ after → length rs ≤ length qs → IsPrefix rs qs
 fewer_begin first [] qs rest after rs_from qs_from e few = (qs, refl)
 fewer_begin first (r ∷ rs) [] rest after rs_from qs_from e few = absurd (omega arith)
 fewer_begin first (r ∷ rs) (q ∷ qs) rest after rs_from qs_from e few =

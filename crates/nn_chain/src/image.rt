@@ -5,6 +5,7 @@ ghost use Rattle.nn_base.specs.Limits.{most_image};
 ghost use Rattle.nn_host.specs.Moments.{disk_at};
 ghost use Rattle.nn_host.specs.Runs.{OnlyAt, Looked};
 ghost use Rattle.nn_marks.specs.Digest.{md5_text_of};
+ghost use Rattle.nn_tree.specs.Imaged.{IsImaged};
 ghost use Rattle.nn_image.specs.Imaged.{IsImage};
 ghost use Rattle.nn_chain.specs.Folder.{folder_at};
 ghost use Rattle.nn_chain.specs.Images.{HasImage, IsIntact};
@@ -71,7 +72,9 @@ pub fn read_image<H: Host, T: Tree>(
 ) -> Result<T, ReadImage>
     requires { i.0 < (H.state host.old).count }
     ensures ok { H.told → IfOk result (λ tree. IsIntact (folder_at ((H.state host.old).reads i.0) sub) version.now id (T.meaning tree)) }
+    ensures imaged { IfOk result (λ tree. IsImaged (T.meaning tree)) }
     ensures err { H.told → IfErr result (λ answer. IsTold (folder_at ((H.state host.old).reads i.0) sub) version.now id answer) }
+    ensures memory { IfErr result (λ answer. answer ≢ ReadImage.Unsound (ImageWhy.Fault ImageFault.Memory)) }
     ensures kept { Looked H.told i.0 (H.state host.old) (H.state host.new) (answered result) }
     ensures any_moment { OnlyAt H.told i.0 (H.state host.old) (H.state host.new) (λ d. d ≡ disk_at (H.state host.old) i.0) }
 {
@@ -93,6 +96,7 @@ fn image_within<H: Host>(host: &mut H, i: DirNo, sub: Sub, id: Txid) -> Result<(
     requires { i.0 < (H.state host.old).count }
     ensures ok { H.told → OnOk result (HasImage (folder_at ((H.state host.old).reads i.0) sub) id (λ bytes. length bytes ≤ most_image)) }
     ensures err { H.told → IfErr result (λ answer. IsToldAnyhow (folder_at ((H.state host.old).reads i.0) sub) id answer) }
+    ensures memory { IfErr result (λ answer. answer ≢ ReadImage.Unsound (ImageWhy.Fault ImageFault.Memory)) }
     ensures kept { Looked H.told i.0 (H.state host.old) (H.state host.new) (answered result) }
     ensures any_moment { OnlyAt H.told i.0 (H.state host.old) (H.state host.new) (λ d. d ≡ disk_at (H.state host.old) i.0) }
 {
@@ -145,6 +149,7 @@ fn image_bytes<H: Host>(
     ensures ok { H.told → IfOk result (λ bytes. folder_at ((H.state host.old).reads i.0) sub (FileName.Image id) ≡ Some bytes.items) }
     ensures small { IfOk result (λ bytes. length bytes.items ≤ most_image) }
     ensures err { H.told → IfErr result (λ answer. answer ≢ ReadImage.Memory → IsToldAnyhow (folder_at ((H.state host.old).reads i.0) sub) id answer) }
+    ensures memory { IfErr result (λ answer. answer ≢ ReadImage.Unsound (ImageWhy.Fault ImageFault.Memory)) }
     ensures kept { Looked H.told i.0 (H.state host.old) (H.state host.new) (answered result) }
     ensures any_moment { OnlyAt H.told i.0 (H.state host.old) (H.state host.new) (λ d. d ≡ disk_at (H.state host.old) i.0) }
 {
