@@ -7,3 +7,4 @@ pub mod Clearing
 pub mod Removing
 pub mod Cutting
 pub mod Topping
+pub mod Tidying

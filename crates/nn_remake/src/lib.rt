@@ -13,7 +13,9 @@ mod staging;
 mod topping;
 
 pub use clearing::clear;
+pub use cutting::names_of;
 pub use fault::MakeFault;
 pub use making::make;
 pub use publishing::publish;
+pub use removing::remove_from_end;
 pub use topping::top_up;
