@@ -58,6 +58,7 @@ module _ {A : Type 0} (old : Held A) (fits : IsIn state.RecoverUpgrade old) wher
   pub taken_recovered : IsRecovered old taken_put
   taken_recovered = recovered old taken_put state.RecoverUpgrade fits refl taken_seat refl
       (takes old taken_put PreviousTmp Current (record { there = λ k. sym taken_there k; files = λ n. refl }))
+      (λ none. cc)
       (takes_none old taken_put Previous)
       (λ none k. (taken_seven k).previous)
       (record { there = refl; files = λ n. refl })
@@ -125,6 +126,7 @@ module _ {A : Type 0} (old : Held A) (fits : IsIn state.RecoverRollback old) whe
   pub returned_recovered : IsRecovered old returned_put
   returned_recovered = recovered old returned_put state.RecoverRollback fits refl returned_seat refl
       (takes old returned_put RemovedTmp Current (record { there = λ k. sym returned_there k; files = λ n. refl }))
+      (λ none. cc)
       (takes old returned_put Previous Previous (record { there = refl; files = λ n. refl }))
       (λ none. cc)
       (record { there = refl; files = λ n. refl })
@@ -192,6 +194,7 @@ module _ {A : Type 0} (old : Held A) (fits : IsIn state.RecoverCheckpoint old) w
   pub restored_recovered : IsRecovered old restored_put
   restored_recovered = recovered old restored_put state.RecoverCheckpoint fits refl restored_seat refl
       (takes old restored_put LastCheckpointTmp Current (record { there = λ k. sym restored_there k; files = λ n. refl }))
+      (λ none. cc)
       (takes_if old restored_put (old.has Previous) Previous Previous (record { there = refl; files = λ n. refl }))
       (unsaved_if old restored_put (old.has Previous) refl)
       (record { there = refl; files = λ n. refl })

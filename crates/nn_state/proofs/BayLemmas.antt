@@ -14,7 +14,7 @@ use Rattle.nn_state.specs.declared.typed.Found.{Found}
 use Rattle.nn_state.specs.declared.typed.Settled.{Settled}
 use Rattle.nn_state.specs.Typed.{state_of, dir_of, FitsFound, FitsSettled, dir_in}
 use Rattle.nn_state.specs.Recovery.{HasServingVersion, KeepsSeat, IsRecovered, WasRecovered}
-use Rattle.nn_state.specs.Bays.{IsAt, AreFound, FitAll, AreSettled, SettledFit, EachKeepsSeat}
+use Rattle.nn_state.specs.Bays.{IsAt, AreFound, FitAll, AreSettled, SettledFit, EachKeepsSeat, HasStoppedAt}
 use Rattle.nn_state.proofs.RestLemmas.{found_old}
 
 -- the first k directories are recovered, and the others as they were
@@ -153,6 +153,12 @@ module _ {told : Type 0} {k : ℕ} {a b : State} {at : List Settled} {found : Li
 
     pub turn_rose : (stuck : DirNo) → stuck ≡ dir_of it → faults_at c (dir_of it).0 ≡ next_count (faults_at b (dir_of it).0) → RoseAt stuck.0 a c
     turn_rose stuck same rose = subst (λ (i : DirNo). RoseAt i.0 a c) (sym same) (rose_last so_far.counts (omega (arith, placed, below)) one.frame rose)
+
+    pub turn_stopped : (stuck : DirNo) → stuck ≡ dir_of it → told → HasStoppedAt stuck.0 a c
+    turn_stopped stuck same tells = subst (λ (i : DirNo). HasStoppedAt i.0 a c) (sym same) (subst (λ (n : ℕ). HasStoppedAt n a c) (sym placed) (record {
+      before = λ j less. before so_far below here_alone tells j less;
+      behind = λ j more. same_disk so_far below here_alone j (λ e. omega (arith, e, more)) ∙ so_far.later tells j (omega (arith, more));
+    }))
 
     pub turn_more : (x : Settled) → faults_at c (dir_of it).0 ≡ faults_at b (dir_of it).0 → dir_in x ≡ dir_of it → (told → WasRecovered (dir_of it).0 b c)
         → (told → HasServingVersion (disk_at b (dir_of it).0) → FitsSettled x (disk_at c (dir_of it).0)) → Recovering told (k + 1) a c (at ++ x ∷ [])

@@ -51,6 +51,7 @@ module _ {A : Type 0} (old : Held A) (fits : IsIn state.CompleteUpgrade old) whe
   pub upgraded_recovered : IsRecovered old (put_under PreviousTmp Previous old)
   upgraded_recovered = recovered old (put_under PreviousTmp Previous old) state.CompleteUpgrade fits refl upgraded_seat refl
       (takes old (put_under PreviousTmp Previous old) Current Current (record { there = refl; files = λ n. refl }))
+      (λ none. cc)
       (takes old (put_under PreviousTmp Previous old) PreviousTmp Previous (record { there = λ k. sym (ap (λ (s : Seven). s.previous_tmp) upgraded_seven) k; files = λ n. refl }))
       (λ none. cc)
       (record { there = refl; files = λ n. refl })
@@ -94,6 +95,7 @@ module _ {A : Type 0} (old : Held A) (fits : IsIn state.CompleteCheckpoint old) 
   pub replaced_recovered : IsRecovered old replaced_put
   replaced_recovered = recovered old replaced_put state.CompleteCheckpoint fits refl replaced_seat refl
       (takes old replaced_put Current Current (record { there = refl; files = λ n. refl }))
+      (λ none. cc)
       (takes_if old replaced_put (old.has Previous) Previous Previous (record { there = refl; files = λ n. refl }))
       (unsaved_if old replaced_put (old.has Previous) refl)
       (record { there = λ k. sym replaced_there k; files = λ n. refl })
@@ -137,6 +139,7 @@ module _ {A : Type 0} (old : Held A) (fits : IsIn state.CompleteRollback old) wh
   pub rolled_recovered : IsRecovered old rolled_new
   rolled_recovered = recovered old rolled_new state.CompleteRollback fits refl rolled_seat refl
       (takes old rolled_new Current Current (record { there = refl; files = λ n. refl }))
+      (λ none. cc)
       (takes_none old rolled_new Previous)
       (λ none k. (rolled_seven k).previous)
       (record { there = refl; files = λ n. refl })
@@ -183,6 +186,7 @@ module _ {A : Type 0} (old : Held A) (fits : IsIn state.CompleteFinalize old) wh
   pub given_recovered : IsRecovered old given_new
   given_recovered = recovered old given_new state.CompleteFinalize fits refl given_seat refl
       (takes_if old given_new (is_some (old.file Current Version)) Current Current (record { there = refl; files = λ n. refl }))
+      (λ none. record { there = refl; files = λ n. refl })
       (takes_none old given_new Previous)
       (λ none k. (given_seven k).previous)
       (record { there = refl; files = λ n. refl })

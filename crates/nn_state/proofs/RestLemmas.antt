@@ -33,6 +33,7 @@ module _ {A : Type 0} (d : Held A) where
       let is = normal_seven (seven_of d) fits in
       recovered d d state.Normal fits refl (ap seat_of is ∙ seat_at_rest (d.has Previous)) refl
       (takes d d Current Current (record { there = refl; files = λ n. refl }))
+      (λ none. cc)
       (takes_if d d (d.has Previous) Previous Previous (record { there = refl; files = λ n. refl }))
       (unsaved_if d d (d.has Previous) refl)
       (record { there = refl; files = λ n. refl })
@@ -41,7 +42,7 @@ module _ {A : Type 0} (d : Held A) where
   pub fresh_recovered : IsIn state.NotFormatted d → IsRecovered d d
   fresh_recovered fits =
       let is = fresh_seven (seven_of d) fits in
-      recovered d d state.NotFormatted fits refl (ap seat_of is ∙ seat_fresh) refl (takes_none d d Current) (takes_none d d Previous) (λ none k. (is k).previous) (record { there = refl; files = λ n. refl }) (no_tmp false false is)
+      recovered d d state.NotFormatted fits refl (ap seat_of is ∙ seat_fresh) refl (takes_none d d Current) (λ none. record { there = refl; files = λ n. refl }) (takes_none d d Previous) (λ none k. (is k).previous) (record { there = refl; files = λ n. refl }) (no_tmp false false is)
 
 -- ---- on the host
 

@@ -47,11 +47,12 @@ module _ {A : Type 0} (old new : Held A) where
   unsaved_if true is none = cc
   unsaved_if false is none = is
 
-  pub recovered : {oc op : Option Sub} {kept : Sub} (state : StorageState) → IsIn state old → to_keep (Ok state) ≡ kept → seat_of (seven_of old) ≡ seat oc op → new.root ≡ old.root → Takes oc Current → Takes op Previous → (op ≡ None → new.has Previous ≡ false)
+  pub recovered : {oc op : Option Sub} {kept : Sub} (state : StorageState) → IsIn state old → to_keep (Ok state) ≡ kept → seat_of (seven_of old) ≡ seat oc op → new.root ≡ old.root → Takes oc Current → (oc ≡ None → IsFrom Current Current old new) → Takes op Previous → (op ≡ None → new.has Previous ≡ false)
       → IsFrom kept PreviousCheckpoint old new → HasNoTmp new → IsRecovered old new
-  recovered {oc} {op} {kept} state fits keeps before root current previous unsaved checkpoint no_tmp = record {
+  recovered {oc} {op} {kept} state fits keeps before root current unserved previous unsaved checkpoint no_tmp = record {
     root = root;
     current = subst (λ (x : Seat). Takes x.current Current) (sym before) current;
+    unserved = subst (λ (x : Seat). x.current ≡ None → IsFrom Current Current old new) (sym before) unserved;
     previous = subst (λ (x : Seat). Takes x.previous Previous) (sym before) previous;
     unsaved = subst (λ (x : Seat). x.previous ≡ None → new.has Previous ≡ false) (sym before) unsaved;
     checkpoint = subst (λ (s : Sub). IsFrom s PreviousCheckpoint old new) (sym (ap to_keep fits ∙ keeps)) checkpoint;

@@ -46,6 +46,16 @@ AllRecovered old new = (j : ℕ) → j < old.count → WasRecovered j old new
 abbrev pub EachKeepsSeat : Type 0 → State → State → Type 0
 EachKeepsSeat told old new = Throughout told old new (EachDir (λ j d. j < old.count → KeepsSeat (disk_at old j) d.disk))
 
+-- a call on this directory failed: those before it are recovered, and those behind it are as they were
+pub record HasStoppedAt (i : ℕ) (old new : State) : Type 0 where
+  pub before : (j : ℕ) → j < i → WasRecovered j old new
+  pub behind : (j : ℕ) → i < j → disk_at new j ≡ disk_at old j
+
+-- why not all are recovered, and what was done
+abbrev pub HasStopped : Type 0 → BayFault → State → State → Type 0
+HasStopped told (Failed i) old new = told → HasStoppedAt i.0 old new
+HasStopped told Memory old new = new ≡ old
+
 -- which counts rose, by the answer: that of the directory that failed, and else none
 abbrev pub IsCountedBy : State → State → Result Bay BayFault → Type 0
 IsCountedBy old new (Ok bay) = SameCounts old new

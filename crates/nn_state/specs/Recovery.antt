@@ -59,6 +59,7 @@ to_keep other = PreviousCheckpoint
 pub record IsRecovered {A : Type 0} (old new : Held A) : Type 0 where
   pub root : new.root ≡ old.root
   pub current : (sub : Sub) → serving old ≡ Some sub → IsFrom sub Current old new
+  pub unserved : serving old ≡ None → IsFrom Current Current old new
   pub previous : (sub : Sub) → saved old ≡ Some sub → IsFrom sub Previous old new
   pub unsaved : saved old ≡ None → new.has Previous ≡ false
   pub checkpoint : IsFrom (to_keep (table_of (seven_of old))) PreviousCheckpoint old new

@@ -1,13 +1,12 @@
 // All directories, each in its state.
-ghost use Rattle.std.specs.Prelude.{◌≡◌, ◌≢◌, ◌<◌, OnOk, IfOk, IsErrOf, MatchResult};
+ghost use Rattle.std.specs.Prelude.{◌≡◌, ◌≢◌, ◌<◌, OnOk, IfOk, IfErr, MatchResult};
 ghost use Rattle.nn_host.specs.Moments.{disk_at};
 ghost use Rattle.nn_host.specs.Calls.{IsCounted};
 ghost use Rattle.nn_host.specs.Runs.{OnlyAt, Unspoken};
 ghost use Rattle.nn_state.specs.declared.state.StorageState.TheVariants as state;
-ghost use Rattle.nn_state.specs.declared.bay.BayFault.TheVariants as fault;
 ghost use Rattle.nn_state.specs.Typed.{state_of, dir_of, FitsFound, FitsSettled, dir_in};
 ghost use Rattle.nn_state.specs.Recovery.{HasServingVersion, KeepsSeat, WasRecovered};
-ghost use Rattle.nn_state.specs.Bays.{AreFound, FitAll, AreSettled, SettledFit, AllRecovered, EachKeepsSeat, IsCountedBy};
+ghost use Rattle.nn_state.specs.Bays.{AreFound, FitAll, AreSettled, SettledFit, AllRecovered, HasStopped, EachKeepsSeat, IsCountedBy};
 
 use crate::{Found, Settled, Stuck};
 use nn_base::DirNo;
@@ -41,7 +40,7 @@ impl Bay {
         ensures ok { H.told → OnOk result (AllRecovered (H.state host.old) (H.state host.new)) }
         ensures settled { IfOk result (λ bay. AreSettled (H.state host.old).count bay.at.items) }
         ensures fits { H.told → IfOk result (λ bay. SettledFit bay.at.items (H.state host.old) (H.state host.new)) }
-        ensures memory { IsErrOf result fault.Memory → H.state host.new ≡ H.state host.old }
+        ensures err { IfErr result (λ fault. HasStopped H.told fault (H.state host.old) (H.state host.new)) }
         ensures any_moment { EachKeepsSeat H.told (H.state host.old) (H.state host.new) }
         ensures quiet { Unspoken H.told (H.state host.old) (H.state host.new) }
         ensures cause { IsCountedBy (H.state host.old) (H.state host.new) result }

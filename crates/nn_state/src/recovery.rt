@@ -75,6 +75,7 @@ impl CompleteRollback {
 
 impl RecoverRollback {
     /// Removes `current` and gives `removed.tmp` this name, so that the rollback was not begun.
+    #[tactic(auto, using(crate::proofs::BackLemmas::returned_there))]
     pub fn recover<H: Host>(self, host: &mut H) -> Result<ReadyWithPrevious, Stuck>
         requires below { self.dir.0 < (H.state host.old).count }
         requires fits { H.told → IsIn state.RecoverRollback (disk_at (H.state host.old) self.dir.0) }

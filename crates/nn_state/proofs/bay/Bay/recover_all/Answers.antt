@@ -3,7 +3,7 @@ use Rattle.std.proofs.lemmas.Iterator.Consumers.{YieldsList-turn, YieldsList-end
 use Rattle.std.proofs.lemmas.Iterator.Adapters.{YieldsList-from_vec}
 use Rattle.nn_host.proofs.RunsLemmas.{throughout_refl}
 use Rattle.nn_state.specs.declared.typed.Settled.{Settled}
-use Rattle.nn_state.proofs.BayLemmas.{Recovering, recovering_none, all_old, turn_below, turn_there, turn_fits, turn_run, turn_quiet, turn_rose, turn_more, turn_last}
+use Rattle.nn_state.proofs.BayLemmas.{Recovering, recovering_none, all_old, turn_below, turn_there, turn_fits, turn_run, turn_quiet, turn_rose, turn_stopped, turn_more, turn_last}
 use Rattle.nn_state.proofs.bay.Bay.recover_all.Goals as goal
 
 pub returns-in_default-clause-any_moment : goal.returns-in_default-clause-any_moment
@@ -51,6 +51,12 @@ found-preserved g c =
       len = omega (arith, long, c.push_reserved.ensures.len, c.found.invariant.len);
       room = c.push_reserved.ensures.capacity ∙ c.found.invariant.room;
     }
+
+pub returns-in-Err-clause-err : goal.returns-in-Err-clause-err
+returns-in-Err-clause-err g c =
+    turn_stopped c.in-Some.it c.found.invariant.so_far c.requires.found
+    (YieldsList-turn (YieldsList-from_vec {s = c.into_iter-it-iterator.result} c.args.found.items (search rules) (search rules)) c.found.yielded c.found.it-iterator c.found.yielded_by c.next.result c.next.new.self c.in-Some.it c.in-Some.is c.next.ensures.steps)
+    c.in-Err.ensures.any_moment c.in-Err.field-0.0 c.in-Err.ensures.dir
 
 pub returns-in-Err-clause-any_moment : goal.returns-in-Err-clause-any_moment
 returns-in-Err-clause-any_moment g c =
