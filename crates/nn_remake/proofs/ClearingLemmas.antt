@@ -1,5 +1,5 @@
 -- A directory while what serves in it is given up, and once it is.
-use Rattle.std.proofs.Common.{◌≡◌, ◌≢◌, inl, inr, ⊎_elim, ℕ, List, Bool, true, false, Option, None, Ok, refl, sym, ◌∙◌, ap, subst}
+use Rattle.std.proofs.Common.{◌≡◌, ◌≢◌, ◌⊎◌, inl, inr, ⊎_elim, ℕ, List, Bool, true, false, Option, None, refl, sym, ◌∙◌, ap, subst}
 use Rattle.std.specs.Prelude.{is_some, if◌then◌else◌, ◌&&◌, not}
 use Rattle.nn_base.specs.declared.sub.Sub.{Sub}
 use Rattle.nn_base.specs.declared.sub.Sub.TheVariants.{Current, Previous, PreviousTmp, RemovedTmp, FinalizedTmp, LastCheckpointTmp, PreviousCheckpoint}
@@ -7,11 +7,10 @@ use Rattle.nn_base.specs.declared.file_name.FileName.{FileName}
 use Rattle.nn_base.specs.declared.file_name.FileName.TheVariants.{Version}
 use Rattle.nn_host.specs.Disk.{Held, Disk, RenameSub, PartOf, after, with_file, with_sub}
 use Rattle.nn_state.specs.declared.state.Seven.{Seven}
-use Rattle.nn_state.specs.declared.state.StorageState.{StorageState}
-use Rattle.nn_state.specs.declared.state.StorageState.TheVariants.{Normal, NotFormatted, CompleteFinalize}
+use Rattle.nn_state.specs.declared.state.StorageState.TheVariants.{CompleteFinalize}
 use Rattle.nn_state.specs.Table.{seven_of, table_of}
 use Rattle.nn_state.specs.Seat.{Seat, seat, seat_of, serving, saved, if_there}
-use Rattle.nn_state.specs.Typed.{FitsFresh}
+use Rattle.nn_state.specs.Typed.{IsIn, FitsFresh}
 use Rattle.nn_state.specs.Renaming.{put_under}
 use Rattle.nn_state.specs.Recovery.{SameFolder}
 use Rattle.nn_state.proofs.TableLemmas.{at_rest, in_finalize, normal_seven, fresh_seven, table_at_rest, table_fresh, table_in_finalize, seat_at_rest, seat_fresh, seat_in_finalize}
@@ -34,10 +33,6 @@ module _ {A : Type 0} (d : Held A) where
 seat_by_version : (version : Bool) → seat_of (at_rest version false) ≡ seat (if_there version Current) None
 seat_by_version true = seat_at_rest false
 seat_by_version false = seat_fresh
-
-table_by_version : (version : Bool) → (state : StorageState) × (table_of (at_rest version false) ≡ Ok state)
-table_by_version true = (Normal, table_at_rest false)
-table_by_version false = (NotFormatted, table_fresh)
 
 -- ---- `previous`
 
@@ -136,27 +131,28 @@ module _ (old d : Disk) (rest : IsAtRest old) where
           ap (λ (s : Seven). (seat_of s).current) e ∙ ap (λ (s : Seat). s.current) seat_fresh ∙ (λ k. if_there (sym (ap (λ (s : Seven). s.current) e) k) Current)
 
   -- in a state of these folders `current` serves where it has VERSION, and nothing is saved
-  keeps_by : (s : Seven) (state : StorageState) → IsGivingUp old d → seven_of d ≡ s → s.root ≡ true → table_of s ≡ Ok state → seat_of s ≡ seat (if_there version Current) None → KeepsCurrent old d
-  keeps_by s state is seven root table there = record {
+  keeps_by : (s : Seven) → IsGivingUp old d → seven_of d ≡ s → s.root ≡ true → IsAtRest d ⊎ IsIn CompleteFinalize d → seat_of s ≡ seat (if_there version Current) None → KeepsCurrent old d
+  keeps_by s is seven root state there = record {
     root = ap (λ (x : Seven). x.root) seven ∙ root;
-    state = (state, ap table_of seven ∙ table);
+    state = state;
     current = subst (λ (o : Option Sub). SameFolder o (serving d) old d) (sym old_current)
         (subst (λ (o : Option Sub). SameFolder (if_there version Current) o old d) (sym (ap (λ (x : Seven). (seat_of x).current) seven ∙ ap (λ (x : Seat). x.current) there)) (same_if old d version Current (λ n. is.files Current n (λ x. cc) (λ x. cc))));
     previous = inr (ap (λ (x : Seven). (seat_of x).previous) seven ∙ ap (λ (x : Seat). x.previous) there);
   }
 
   keeps_given : (tmp : Bool) → d.has FinalizedTmp ≡ tmp → IsGivingUp old d → d.has Previous ≡ false → KeepsCurrent old d
-  keeps_given true told is gone = keeps_by (in_finalize version) CompleteFinalize is (given_seven is gone ∙ (λ k. record (at_rest version false) { finalized_tmp = told k })) refl (table_in_finalize version) (seat_in_finalize version)
+  keeps_given true told is gone =
+      let seven = given_seven is gone ∙ (λ k. record (at_rest version false) { finalized_tmp = told k }) in
+      keeps_by (in_finalize version) is seven refl (inr (ap table_of seven ∙ table_in_finalize version)) (seat_in_finalize version)
   keeps_given false told is gone =
-      let by = table_by_version version in
-      keeps_by (at_rest version false) by.0 is (given_seven is gone ∙ (λ k. record (at_rest version false) { finalized_tmp = told k })) refl by.1 (seat_by_version version)
+      let seven = given_seven is gone ∙ (λ k. record (at_rest version false) { finalized_tmp = told k }) in
+      keeps_by (at_rest version false) is seven refl (inl (at_version d version seven)) (seat_by_version version)
 
-  keeps_old : IsAtRest old → KeepsCurrent old old
-  keeps_old (inl normal) = record { root = λ k. (rest_seven old rest k).root; state = (Normal, normal); current = same_folder old (serving old); previous = inl (same_folder old (saved old)) }
-  keeps_old (inr fresh) = record { root = λ k. (rest_seven old rest k).root; state = (NotFormatted, fresh); current = same_folder old (serving old); previous = inl (same_folder old (saved old)) }
+  keeps_old : KeepsCurrent old old
+  keeps_old = record { root = λ k. (rest_seven old rest k).root; state = inl rest; current = same_folder old (serving old); previous = inl (same_folder old (saved old)) }
 
   pub giving_keeps : IsGivingUp old d → KeepsCurrent old d
-  giving_keeps is = ⊎_elim (λ same. subst (KeepsCurrent old) (sym same) (keeps_old rest)) (λ gone. keeps_given (d.has FinalizedTmp) refl is gone) is.previous
+  giving_keeps is = ⊎_elim (λ same. subst (KeepsCurrent old) (sym same) keeps_old) (λ gone. keeps_given (d.has FinalizedTmp) refl is gone) is.previous
 
   pub given_rest : IsGivenUp old d → IsAtRest d
   given_rest is = at_version d version (given_seven is.giving is.previous ∙ (λ k. record (at_rest version false) { finalized_tmp = is.tmp k }))

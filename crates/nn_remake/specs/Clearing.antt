@@ -5,8 +5,7 @@ use Rattle.nn_base.specs.declared.sub.Sub.TheVariants.{Previous, FinalizedTmp}
 use Rattle.nn_base.specs.declared.file_name.FileName.{FileName}
 use Rattle.nn_host.specs.Disk.{Held}
 use Rattle.nn_host.specs.Moments.{State, disk_at}
-use Rattle.nn_state.specs.declared.state.StorageState.{StorageState}
-use Rattle.nn_state.specs.declared.state.StorageState.TheVariants.{Normal, NotFormatted}
+use Rattle.nn_state.specs.declared.state.StorageState.TheVariants.{Normal, NotFormatted, CompleteFinalize}
 use Rattle.nn_state.specs.Seat.{serving, saved}
 use Rattle.nn_state.specs.Typed.{IsIn, FitsFresh}
 use Rattle.nn_state.specs.Recovery.{SameFolder}
@@ -37,10 +36,10 @@ pub record WasGivenUp (i : ℕ) (old new : State) : Type 0 where
 
 -- ---- all of it
 
--- what serves as current is as it was, and what serves as previous too, unless nothing does any more
+-- Nothing is under way but that a saved state is finalized. What serves as current is as it was, and what serves as previous too, unless nothing does any more.
 pub record KeepsCurrent {A : Type 0} (old d : Held A) : Type 0 where
   pub root : d.root ≡ true
-  pub state : (state : StorageState) × IsIn state d
+  pub state : IsAtRest d ⊎ IsIn CompleteFinalize d
   pub current : SameFolder (serving old) (serving d) old d
   pub previous : SameFolder (saved old) (saved d) old d ⊎ (saved d ≡ None)
 

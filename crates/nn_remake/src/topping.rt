@@ -8,8 +8,7 @@ ghost use Rattle.nn_state.specs.Typed.{IsIn, FitsSettled, dir_in};
 ghost use Rattle.nn_tree.specs.Imaged.{IsImaged};
 ghost use Rattle.nn_remake.specs.Counts.{IsCountedBy};
 ghost use Rattle.nn_remake.specs.Published.{IsOnlyOf};
-ghost use Rattle.nn_remake.specs.Clearing.{IsGivingUp};
-ghost use Rattle.nn_remake.specs.Topping.{SavedAsAsked, IsToppingUp, WasKeptOrGivenUp, WasToppedUp, IsBroughtTo};
+ghost use Rattle.nn_remake.specs.Topping.{IsGivingUpUnless, IsToppingUp, WasKeptOrGivenUp, WasToppedUp, IsBroughtTo};
 
 use crate::clearing::give_up_previous;
 use crate::cutting::cut_down;
@@ -59,11 +58,10 @@ fn keep_or_give_up<H: Host>(host: &mut H, at: Settled, saved: bool) -> Result<Se
     requires below { (dir_in at).0 < (H.state host.old).count }
     requires fits { H.told → FitsSettled at (disk_at (H.state host.old) (dir_in at).0) }
     requires normal { H.told → IsIn state.Normal (disk_at (H.state host.old) (dir_in at).0) }
-    ensures ok { H.told → OnOk result (WasKeptOrGivenUp (dir_in at).0 (H.state host.old) (H.state host.new)) }
-    ensures asked { H.told → OnOk result (SavedAsAsked saved (disk_at (H.state host.new) (dir_in at).0)) }
+    ensures ok { H.told → OnOk result (WasKeptOrGivenUp saved (dir_in at).0 (H.state host.old) (H.state host.new)) }
     ensures fits { H.told → IfOk result (λ it. FitsSettled it (disk_at (H.state host.new) (dir_in at).0)) }
     ensures normal { H.told → OnOk result (IsIn state.Normal (disk_at (H.state host.new) (dir_in at).0)) }
-    ensures any_moment { OnlyAt H.told (dir_in at).0 (H.state host.old) (H.state host.new) (IsGivingUp (disk_at (H.state host.old) (dir_in at).0)) }
+    ensures any_moment { OnlyAt H.told (dir_in at).0 (H.state host.old) (H.state host.new) (IsGivingUpUnless saved (disk_at (H.state host.old) (dir_in at).0)) }
     ensures dir { IfOk result (λ it. dir_in it ≡ dir_in at) }
     ensures cause { IsCounted (dir_in at).0 (H.state host.old) (H.state host.new) result }
 {

@@ -1,12 +1,13 @@
 -- A directory that is topped up: its previous is given up unless it is to stay, `current` is cut down, and the floor's image is published.
-use Rattle.std.proofs.Common.{false, ◌≡◌, ◌≢◌, ◌⊎◌, inl, inr, ⊎_elim, ℕ, Bool, List, Option, Some, None, refl, sym, ◌∙◌, ap, subst, arith}
-use Rattle.std.specs.Prelude.{is_some, Result}
+use Rattle.std.proofs.Common.{true, false, true≢false, ◌≡◌, ◌≢◌, inl, inr, ⊎_elim, ℕ, Bool, List, Option, Some, None, refl, sym, ◌∙◌, ap, subst, arith}
+use Rattle.std.specs.Prelude.{is_some, Result, if◌then◌else◌}
 use Rattle.std.proofs.lemmas.Bool.{le-ltb}
 use Rattle.md5.specs.Md5.{md5}
+use Rattle.nn_base.specs.declared.sub.Sub.{Sub}
 use Rattle.nn_base.specs.declared.sub.Sub.TheVariants.{Current, Previous}
 use Rattle.nn_base.specs.declared.file_name.FileName.{FileName}
 use Rattle.nn_base.specs.declared.file_name.FileName.TheVariants as name
-use Rattle.nn_host.specs.Disk.{Held, Disk, Reads, File, Leaves, certain}
+use Rattle.nn_host.specs.Disk.{Held, Disk, File, Reads, Leaves, certain}
 use Rattle.nn_host.specs.Moments.{State, disk_at}
 use Rattle.nn_host.proofs.CleanLemmas.{reading, sure_left}
 use Rattle.nn_marks.specs.Digest.{md5_text_of}
@@ -24,11 +25,12 @@ use Rattle.nn_chain.specs.Images.{HasIntact}
 use Rattle.nn_remake.specs.Clearing.{IsGivingUp}
 use Rattle.nn_remake.specs.Cutting.{IsCutting, IsCutDown}
 use Rattle.nn_remake.specs.Removing.{is_segment, is_later_image}
-use Rattle.nn_remake.specs.Topping.{KeptOrGivenUp, SavedAsAsked, WasToppedUp}
+use Rattle.nn_remake.specs.Publishing.{IsWhole}
+use Rattle.nn_remake.specs.Topping.{KeptOrGivenUp, WasToppedUp}
 use Rattle.nn_remake.proofs.ClearingLemmas.{giving_keeps}
 use Rattle.nn_remake.proofs.LeftLemmas.{seven_left}
 use Rattle.nn_remake.proofs.TableLemmas.{seven_by}
-use Rattle.nn_remake.proofs.ToppingLemmas.{given_normal}
+use Rattle.nn_remake.proofs.ToppingLemmas.{given_normal, kept_asked, same_current}
 use Rattle.nn_kept.specs.Kept.{Shared}
 use Rattle.nn_kept.specs.Laws.{EachLeft}
 use Rattle.nn_kept.proofs.KeptOnwardLemmas.{version_there}
@@ -38,13 +40,17 @@ use Rattle.nn_steps.proofs.NormalLemmas.{current_serves, is_current}
 use Rattle.nn_steps.proofs.LoweringLemmas.{some_chain}
 use Rattle.nn_steps.proofs.ClearedLemmas.{giving_up_keeps}
 use Rattle.nn_steps.proofs.CutLemmas.{cutting_keeps, cutting_part, part_left, part_same}
-use Rattle.nn_steps.proofs.ToppedLemmas.{IsCutLow, whole_ends, publishing_tops}
+use Rattle.nn_steps.proofs.ToppedLemmas.{IsCutLow, top_saved, whole_left, whole_ends, publishing_tops}
 
 saves_by : {A : Type 0} (d : Held A) → IsIn Normal d → saved d ≡ if_there (d.has Previous) Previous
 saves_by d normal = ap (λ (r : Result StorageState Why). (seat_by r (seven_of d)).previous) normal
 
 unsaved_by : {A : Type 0} (d : Held A) → IsIn Normal d → d.has Previous ≡ false → saved d ≡ None
 unsaved_by d normal none = saves_by d normal ∙ ap (λ (there : Bool). if_there there Previous) none
+
+either_none : (keep : Bool) (o : Option Sub) → o ≡ None → o ≡ (if keep then o else None)
+either_none true o none = refl
+either_none false o none = none
 
 -- ---- once its previous was given up, or stays
 
@@ -64,22 +70,37 @@ giving_says version old mid normal there is says c leaves fair =
     let same = is_current c here (folder_at it.before Current) (it.current (folder_at it.before Current) (current_serves it.before before)) in
     subst (λ (f : Folder). HasVersion f version) same (says it.before it.left (it.fair fair))
 
-mid_fits : (shared : Shared) (keep : Bool) (version : Version) (id : ℕ) (old mid : Disk) → IsToTopUp shared keep version id old → KeptOrGivenUp old mid → SavedAsAsked keep mid → IsMid shared version mid
-mid_fits shared keep version id old mid fits kept asked = record {
+mid_normal : (keep : Bool) (old mid : Disk) → IsIn Normal old → KeptOrGivenUp keep old mid → IsIn Normal mid
+mid_normal keep old mid normal (inl same) = subst (λ (d : Disk). IsIn Normal d) (sym same.0) normal
+mid_normal keep old mid normal (inr given) = given_normal old mid normal given.1
+
+-- what was saved stays exactly if it is to
+mid_saves : (keep : Bool) (old mid : Disk) → IsIn Normal old → KeptOrGivenUp keep old mid → saved mid ≡ (if keep then saved old else None)
+mid_saves keep old mid normal (inl same) = ap (λ (d : Disk). saved d) same.0 ∙ ⊎_elim
+    (λ stays. ap (λ (k : Bool). if k then saved old else None) (sym stays))
+    (λ none. either_none keep (saved old) (unsaved_by old normal none))
+    same.1
+mid_saves keep old mid normal (inr given) = unsaved_by mid (given_normal old mid normal given.1) given.1.previous ∙ ap (λ (k : Bool). if k then saved old else None) (sym given.0)
+
+mid_fits : (shared : Shared) (keep : Bool) (version : Version) (id : ℕ) (old mid : Disk) → IsToTopUp shared keep version id old → KeptOrGivenUp keep old mid → IsMid shared version mid
+mid_fits shared keep version id old mid fits kept = record {
   normal = normal;
-  behind = ⊎_elim (λ same. subst (StaysBehind shared) (sym same) fits.behind) (λ given. giving_up_keeps shared old mid (inl fits.normal) fits.behind given.giving) kept;
-  says = ⊎_elim (λ same. subst (λ (d : Disk). EachLeft d (λ c. HasVersion (folder_at c Current) version)) (sym same) fits.says) (λ given. giving_says version old mid fits.normal normal given.giving fits.says) kept;
-  saves = λ has. ⊎_elim (λ stays. fits.saves stays) (λ none. absurd (has (unsaved_by mid normal none))) asked;
+  behind = ⊎_elim (λ same. subst (StaysBehind shared) (sym same.0) fits.behind) (λ given. giving_up_keeps shared old mid (inl fits.normal) fits.behind given.1.giving) kept;
+  says = ⊎_elim (λ same. subst (λ (d : Disk). EachLeft d (λ c. HasVersion (folder_at c Current) version)) (sym same.0) fits.says) (λ given. giving_says version old mid fits.normal normal given.1.giving fits.says) kept;
+  saves = λ has. ⊎_elim (λ stays. fits.saves stays) (λ none. absurd (has (unsaved_by mid normal none))) (kept_asked old mid kept);
 }
   where
     normal : IsIn Normal mid
-    normal = ⊎_elim (λ same. subst (λ (d : Disk). IsIn Normal d) (sym same) fits.normal) (λ given. given_normal old mid fits.normal given) kept
+    normal = mid_normal keep old mid fits.normal kept
 
 -- ---- while it is cut down, and once it is
 
 module _ (version : Version) (id : ℕ) (mid low : Disk) (is : IsCutting id mid low) where
   same_seven : seven_of low ≡ seven_of mid
   same_seven = seven_by mid low is.root is.subs (ap (λ (o : Option File). is_some o) (is.others name.Version refl refl))
+
+  same_saved : saved low ≡ saved mid
+  same_saved = ap (λ (s : Seven). (seat_of s).previous) same_seven
 
   cutting_says : EachLeft mid (λ c. HasVersion (folder_at c Current) version) → EachLeft low (λ c. HasVersion (folder_at c Current) version)
   cutting_says says c leaves fair =
@@ -96,17 +117,26 @@ low_fits shared version id mid low fits is ctime last = record {
   last = last;
   segments = is.segments;
   later = is.images;
-  saves = λ has. fits.saves (λ none. has (ap (λ (s : Seven). (seat_of s).previous) (same_seven version id mid low is.cutting) ∙ none));
+  saves = λ has. fits.saves (λ none. has (same_saved version id mid low is.cutting ∙ none));
 }
 
+-- where it is to stay, it does
+if_kept : (keep : Bool) (o : Option Sub) → keep ≡ true → (if keep then o else None) ≡ o
+if_kept keep o is = ap (λ (k : Bool). if k then o else None) is
+
 pub topping_up_keeps : ToppingUpKeeps
-topping_up_keeps shared keep version id old d fits (inl giving) = inl (giving_up_keeps shared old d (inl fits.normal) fits.behind giving)
+topping_up_keeps shared keep version id old d fits (inl (inl same)) = (inl (subst (StaysBehind shared) (sym same) fits.behind), λ stays. ap (λ (x : Disk). saved x) same)
+topping_up_keeps shared keep version id old d fits (inl (inr giving)) = (inl (giving_up_keeps shared old d (inl fits.normal) fits.behind giving.1), λ stays. absurd (true≢false (sym stays ∙ giving.0)))
 topping_up_keeps shared keep version id old d fits (inr (inl cutting)) =
-    let mid = mid_fits shared keep version id old cutting.0 fits cutting.1 cutting.2 in
-    inl (cutting_keeps shared id cutting.0 d mid.normal mid.behind cutting.3)
+    let mid = mid_fits shared keep version id old cutting.0 fits cutting.1 in (
+      inl (cutting_keeps shared id cutting.0 d mid.normal mid.behind cutting.2),
+      λ stays. same_saved version id cutting.0 d cutting.2 ∙ mid_saves keep old cutting.0 fits.normal cutting.1 ∙ if_kept keep (saved old) stays,
+    )
 topping_up_keeps shared keep version id old d fits (inr (inr last)) =
-    let mid = mid_fits shared keep version id old last.0 fits last.2 last.3 in
-    publishing_tops shared version id last.1 d (low_fits shared version id last.0 last.1 mid last.4 fits.ctime fits.last) last.5
+    let mid = mid_fits shared keep version id old last.0 fits last.2 in (
+      publishing_tops shared version id last.1 d (low_fits shared version id last.0 last.1 mid last.3 fits.ctime fits.last) last.4,
+      λ stays. sym (top_saved id last.1 d last.4.beside) ∙ same_saved version id last.0 last.1 last.3.cutting ∙ mid_saves keep old last.0 fits.normal last.2 ∙ if_kept keep (saved old) stays,
+    )
 
 -- ---- once it is done
 
@@ -132,8 +162,8 @@ module _ (keep : Bool) (version : Version) (id : ℕ) (ns : Namespace) (i : ℕ)
   -- a file that stays is certain still
   sure_still : (n : FileName) (bytes : List ℕ) → is_segment n ≡ false → is_later_image id n ≡ false → (is.low.reads i).file Current n ≡ Some bytes → (disk_at is.low i).file Current n ≡ certain (Some bytes)
   sure_still n bytes segment later there =
-      let disk_mid = ⊎_elim (λ same. ap (λ (d : Disk). d.file Current n) same) (λ given. given.giving.files Current n (λ e. cc) (λ e. cc)) is.kept.disk in
-      let reads_mid = ⊎_elim (λ same. ap (λ (r : Reads). r.file Current n) same) (λ given. given.giving.files Current n (λ e. cc) (λ e. cc)) is.kept.reads in
+      let disk_mid = same_current (disk_at old i) (disk_at is.mid i) n is.kept.disk in
+      let reads_mid = same_current (old.reads i) (is.mid.reads i) n is.kept.reads in
       let disk_low = is.cut.disk.cutting.others n segment later in
       let reads_low = is.cut.reads.cutting.others n segment later in
       disk_low ∙ disk_mid ∙ sure n ∙ ap certain (sym (reads_low ∙ reads_mid) ∙ there)
@@ -151,9 +181,16 @@ module _ (keep : Bool) (version : Version) (id : ℕ) (ns : Namespace) (i : ℕ)
 
 pub topped_up_ends : ToppedUpEnds
 topped_up_ends shared keep version id i old new fits sure is =
-    let mid = mid_fits shared keep version id (disk_at old i) (disk_at is.mid i) fits is.kept.disk is.asked in
+    let mid = mid_fits shared keep version id (disk_at old i) (disk_at is.mid i) fits is.kept.disk in
     let low = low_fits shared version id (disk_at is.mid i) (disk_at is.low i) mid is.cut.disk fits.ctime fits.last in
     elim is.published [
-      | inl missing ↦ whole_ends shared version id (disk_at is.low i) (disk_at new i) low missing.written.disk.beside (record { bytes = missing.written.bytes; image = missing.written.image; stands = missing.written.disk.stands })
+      | inl missing ↦ (
+          let whole : IsWhole version id (shared.ns version.ctime id) (disk_at new i) = record { bytes = missing.written.bytes; image = missing.written.image; stands = missing.written.disk.stands } in
+          record {
+            ends = whole_ends shared version id (disk_at is.low i) (disk_at new i) low missing.written.disk.beside whole;
+            intact = λ c leaves fair. whole_left version id (shared.ns version.ctime id) (disk_at new i) c leaves whole;
+            stays = sym (top_saved id (disk_at is.low i) (disk_at new i) missing.written.disk.beside) ∙ same_saved version id (disk_at is.mid i) (disk_at is.low i) is.cut.disk.cutting ∙ mid_saves keep (disk_at old i) (disk_at is.mid i) fits.normal is.kept.disk;
+          }
+          )
       | inr there ↦ absurd (not_there shared version id (disk_at is.low i) low (intact_left keep version id (shared.ns version.ctime id) i old new is sure there.intact))
     ]

@@ -3,6 +3,7 @@ use Rattle.std.proofs.Common.{◌≡◌, ◌⊎◌, inl, inr, ⊎_elim, Option, 
 use Rattle.std.specs.Prelude.{is_some}
 use Rattle.nn_base.specs.declared.sub.Sub.{Sub}
 use Rattle.nn_host.specs.Disk.{Disk, Reads, Leaves}
+use Rattle.nn_state.specs.declared.state.StorageState.TheVariants.{Normal, NotFormatted, CompleteFinalize}
 use Rattle.nn_state.specs.Seat.{saved}
 use Rattle.nn_remake.specs.Clearing.{KeepsCurrent}
 use Rattle.nn_remake.proofs.ClearingLemmas.{giving_keeps}
@@ -11,7 +12,7 @@ use Rattle.nn_tree.specs.Namespace.{Namespace}
 use Rattle.nn_chain.specs.Chain.{Reached}
 use Rattle.nn_kept.specs.Ends.{EndsAt}
 use Rattle.std.specs.Prelude.{Bool}
-use Rattle.nn_kept.specs.Kept.{Shared, IsKept}
+use Rattle.nn_kept.specs.Kept.{Shared, HasState, IsKept}
 use Rattle.nn_kept.specs.Laws.{IsOutranked, EachLeft}
 use Rattle.nn_kept.specs.Onward.{HasSameSeat, IsCutFrom}
 use Rattle.nn_kept.proofs.KeptOnwardLemmas.{same_seat_is_kept, cut_is_kept}
@@ -20,13 +21,19 @@ use Rattle.nn_steps.proofs.MadeLemmas.{fresh_is_kept}
 use Rattle.nn_steps.proofs.SeatLemmas.{LeftCut, left_cut, has_state, neither}
 use Rattle.nn_steps.proofs.RecoveredLemmas.{served}
 
+keeps_state : (old d : Disk) (c : Reads) → Leaves d c → KeepsCurrent old d → HasState c
+keeps_state old d c leaves is = elim is.state [
+  | inl rest ↦ elim rest [ inl normal ↦ has_state d c leaves is.root Normal normal | inr fresh ↦ has_state d c leaves is.root NotFormatted fresh ]
+  | inr finalizing ↦ has_state d c leaves is.root CompleteFinalize finalizing
+]
+
 module _ (shared : Shared) (old d : Disk) (is : KeepsCurrent old d) (c : Reads) (leaves : Leaves d c) where
   it : LeftCut old d c
   it = left_cut old d c leaves is.current is.previous
 
   cut_from : IsCutFrom it.before c
   cut_from = record {
-    state = has_state d c leaves is.root is.state.0 is.state.1;
+    state = keeps_state old d c leaves is;
     current = λ folder serves. (folder, served it.before c it.unserved it.current folder serves, refl, refl);
     previous = it.previous;
   }
@@ -80,7 +87,7 @@ module _ (version : Version) (has : Bool) (what : Option Namespace) (end : Reach
 
   given_up_ends : EndsAt before.before version has what end → EndsAt c version (is_some (saved c)) what end
   given_up_ends is = record {
-    state = has_state d c leaves keeps.root keeps.state.0 keeps.state.1;
+    state = keeps_state old d c leaves keeps;
     folder = is.folder;
     under = record { serves = before.current is.folder is.under.serves; says = is.under.says };
     chain = is.chain;

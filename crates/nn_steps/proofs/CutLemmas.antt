@@ -27,7 +27,8 @@ use Rattle.nn_kept.specs.Laws.{IsOutranked}
 use Rattle.nn_steps.specs.Steps.{StaysBehind}
 use Rattle.nn_steps.proofs.BesideLemmas.{LeftBeside, left_beside}
 use Rattle.nn_steps.proofs.NormalLemmas.{SameMarks, stays_outranked, stays_behind}
-use Rattle.nn_steps.proofs.LoweringLemmas.{IsTrimmed, IsNotRaised, trimmed_not_raised, bare_not_raised}
+use Rattle.nn_steps.specs.NotRaised.{IsNotRaised}
+use Rattle.nn_steps.proofs.LoweringLemmas.{IsTrimmed, LeftLower, trimmed_not_raised, bare_not_raised}
 
 -- a stop makes no file
 pub left_none : (f : Option File) (w : Option (List ℕ)) → LeavesFile f w → f ≡ None → w ≡ None
@@ -131,6 +132,10 @@ module _ (id : ℕ) (old d : Disk) (is : IsCutting id old d) (c : Reads) (leaves
       (λ others. trimmed_not_raised v (folder_at it.before Current) (folder_at c Current) (trimmed others))
       (λ none. bare_not_raised v (folder_at it.before Current) (folder_at c Current) (no_segment none) (intact_before v))
       is.images
+
+  pub cut_lower : LeftLower old d c
+  unfolding it
+  cut_lower = record { before = it.before; left = it.left; fair = it.fair; says = marks.version; rank = lower }
 
   cut_behind : (shared : Shared) → IsIn Normal old → StaysBehind shared old → IsFair d c → IsKept shared c × IsOutranked shared c
   unfolding it

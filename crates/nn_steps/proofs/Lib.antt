@@ -8,6 +8,7 @@ pub mod ClearedLemmas
 pub mod CutLemmas
 pub mod PublishedLemmas
 pub mod ToppedLemmas
+pub mod NotRaisedLemmas
 pub mod BroughtLemmas
 pub mod LoggedLemmas
 pub mod TidiedLemmas

@@ -5,29 +5,38 @@ use Rattle.std.specs.List.{slice_index_or}
 use Rattle.std.proofs.lemmas.Option.{none-some}
 use Rattle.std.proofs.lemmas.Bool.{cases_lt}
 use Rattle.nn_base.specs.declared.file_name.FileName.{FileName}
+use Rattle.nn_base.specs.declared.sub.Sub.TheVariants.{Current}
 use Rattle.nn_base.specs.declared.file_name.FileName.TheVariants.{Image, Md5}
+use Rattle.nn_base.specs.declared.file_name.FileName.TheVariants as name
+use Rattle.nn_host.specs.Disk.{Disk, Reads, Leaves}
 use Rattle.nn_host.specs.Listing.{IsBefore}
 use Rattle.nn_marks.specs.declared.version.Version.{Version}
 use Rattle.nn_tree.specs.Namespace.{Namespace}
 use Rattle.nn_record.specs.declared.transaction.Record.{Record}
 use Rattle.nn_segment.specs.Segment.{AreFrom, IsRun}
-use Rattle.nn_chain.specs.Folder.{Folder}
+use Rattle.nn_chain.specs.Folder.{Folder, folder_at}
+use Rattle.nn_chain.specs.Fair.{IsFair}
 use Rattle.nn_chain.specs.Images.{IsIntact, HasIntact, IsNewest}
 use Rattle.nn_chain.specs.Records.{first_in, HoldsRecord, IsRecordOf}
 use Rattle.nn_chain.specs.Chain.{Reached, after, IsNextRecord, Leads, IsEnd, IsChain, HasNoSegment}
 use Rattle.nn_chain.proofs.SameLemmas.{joined, intact_same}
+use Rattle.nn_steps.specs.NotRaised.{IsNotRaised}
 
 -- ---- bounds
-
--- whatever bounds the ends of the chains of the one folder bounds those of the other
-abbrev pub IsNotRaised : Version → Folder → Folder → Type 0
-IsNotRaised version old new = (bound : ℕ) → ((was : Reached) → IsChain old version was → was.last < bound) → (end : Reached) → IsChain new version end → end.last < bound
 
 pub not_raised_same : (version : Version) (folder : Folder) → IsNotRaised version folder folder
 not_raised_same version folder bound all end chain = all end chain
 
 pub not_raised_then : (version : Version) (a b c : Folder) → IsNotRaised version a b → IsNotRaised version b c → IsNotRaised version a c
 not_raised_then version a b c p q bound all = q bound (p bound all)
+
+-- What a stop leaves of a disk has the VERSION of something that one could leave of the old disk, and ranks no higher.
+pub record LeftLower (old d : Disk) (c : Reads) : Type 0 where
+  pub before : Reads
+  pub left : Leaves old before
+  pub fair : IsFair d c → IsFair old before
+  pub says : c.file Current name.Version ≡ before.file Current name.Version
+  pub rank : (v : Version) → IsNotRaised v (folder_at before Current) (folder_at c Current)
 
 -- ---- each place on the way is followed by an end
 

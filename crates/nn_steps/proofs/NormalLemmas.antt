@@ -26,7 +26,7 @@ use Rattle.nn_kept.specs.Onward.{IsCutFrom}
 use Rattle.nn_kept.specs.Ends.{EndsAt}
 use Rattle.nn_kept.proofs.KeptOnwardLemmas.{version_there, seen_there, cut_is_kept}
 use Rattle.nn_tree.specs.Namespace.{Namespace}
-use Rattle.nn_steps.proofs.LoweringLemmas.{IsNotRaised}
+use Rattle.nn_steps.specs.NotRaised.{IsNotRaised}
 
 there_is : (b : Bool) (s : Sub) → if_there b Previous ≡ Some s → Previous ≡ s
 there_is true s e = same_Some Previous s e

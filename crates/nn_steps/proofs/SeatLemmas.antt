@@ -100,7 +100,7 @@ module _ (c : Reads) (rest : Sub → FileName → Option (List ℕ)) where
 
 module _ (old d : Disk) (c : Reads) where
   -- what holds of each file that is left and of the rest holds of these contents
-  placed : (Q : FileName → Option File → Option (List ℕ) → Type 0) (rest : Sub → FileName → Option (List ℕ)) (oc nc : Option Sub) → SameFolder oc nc old d → ((s : Sub) (n : FileName) → Q n (d.file s n) (c.file s n))
+  pub placed : (Q : FileName → Option File → Option (List ℕ) → Type 0) (rest : Sub → FileName → Option (List ℕ)) (oc nc : Option Sub) → SameFolder oc nc old d → ((s : Sub) (n : FileName) → Q n (d.file s n) (c.file s n))
       → ((s : Sub) (n : FileName) → Q n (old.file s n) (rest s n)) → (s : Sub) (n : FileName) → Q n (old.file s n) (in_place oc nc c rest s n)
   unfolding in_place
   placed Q rest None nc same left others s n = others s n

@@ -39,7 +39,8 @@ use Rattle.nn_remake.proofs.TableLemmas.{seven_by}
 use Rattle.nn_steps.specs.Steps.{StaysBehind}
 use Rattle.nn_steps.proofs.BesideLemmas.{LeftBeside, left_beside}
 use Rattle.nn_steps.proofs.NormalLemmas.{SameMarks, current_serves, normal_too, saved_same, previous_before, stays_outranked, stays_behind}
-use Rattle.nn_steps.proofs.LoweringLemmas.{IsNotRaised, bare_not_raised}
+use Rattle.nn_steps.specs.NotRaised.{IsNotRaised}
+use Rattle.nn_steps.proofs.LoweringLemmas.{LeftLower, bare_not_raised}
 use Rattle.nn_steps.proofs.CutLemmas.{left_none, name_kind}
 
 abbrev pub NoSegments : Disk → Type 0
@@ -134,6 +135,9 @@ module _ (id : ℕ) (old d : Disk) (beside : BesideImage id old d) where
     lower : NoSegments old → d.file Current (name.Image id) ≡ None → (v : Version) → IsNotRaised v (folder_at top_left.before Current) (folder_at c Current)
     lower lacks gone v = bare_not_raised v (folder_at top_left.before Current) (folder_at c Current) (none_here lacks) (intact_before gone v)
 
+    pub gone_lower : NoSegments old → d.file Current (name.Image id) ≡ None → LeftLower old d c
+    gone_lower lacks gone = record { before = top_left.before; left = top_left.left; fair = top_left.fair; says = marks.version; rank = lower lacks gone }
+
     pub gone_behind : (shared : Shared) → IsIn Normal old → NoSegments old → d.file Current (name.Image id) ≡ None → IsKept shared top_left.before → IsOutranked shared top_left.before → IsKept shared c × IsOutranked shared c
     gone_behind shared normal lacks gone kept low =
         let before = top_normal normal in
@@ -207,7 +211,7 @@ module _ (shared : Shared) (version : Version) (id : ℕ) (old d : Disk) (fits :
     }
 
 -- what serves as previous stays
-top_saved : (id : ℕ) (old d : Disk) → BesideImage id old d → saved old ≡ saved d
+pub top_saved : (id : ℕ) (old d : Disk) → BesideImage id old d → saved old ≡ saved d
 top_saved id old d beside = sym (ap (λ (s : Seven). (seat_of s).previous) (seven_by old d beside.root beside.subs (ap (λ (o : Option File). is_some o) (beside.other_files name.Version (λ e. cc) (λ e. cc) (λ e. cc) (λ e. cc)))))
 
 pub whole_ends : (shared : Shared) (version : Version) (id : ℕ) (old d : Disk) → IsCutLow shared version id old → BesideImage id old d → IsWhole version id (shared.ns version.ctime id) d

@@ -1,5 +1,5 @@
 -- What each durable step on a directory keeps: from what it says of the one disk at each moment to what a run keeps of that disk.
-use Rattle.std.specs.Prelude.{◌≡◌, ◌≢◌, ◌⊎◌, None, ℕ, ◌<◌, ◌≤◌, ◌^◌, Bool, false, Option, is_some, Some, true}
+use Rattle.std.specs.Prelude.{◌≡◌, ◌≢◌, ◌⊎◌, None, ℕ, ◌<◌, ◌≤◌, ◌^◌, Bool, false, Option, is_some, Some, true, if◌then◌else◌}
 use Rattle.nn_base.specs.Limits.{program_layout}
 use Rattle.nn_base.specs.declared.sub.Sub.{Sub}
 use Rattle.nn_base.specs.declared.file_name.FileName.{FileName}
@@ -100,14 +100,21 @@ pub record IsToTopUp (shared : Shared) (keep : Bool) (version : Version) (id : �
 abbrev pub EndsAtFloor : Shared → Version → ℕ → Disk → Type 0
 EndsAtFloor shared version id d = EndsBetween version (is_some (saved d)) (shared.saved version.ctime) (shared.ns version.ctime) id id d
 
--- At each moment of its topping up it stays behind, or it ends at the floor.
+-- At each moment of its topping up it stays behind, or it ends at the floor; and what is saved stays, if it is to.
 abbrev pub ToppingUpKeeps : Type 0
-ToppingUpKeeps = (shared : Shared) (keep : Bool) (version : Version) (id : ℕ) (old d : Disk) → IsToTopUp shared keep version id old → IsToppingUp keep version id (shared.ns version.ctime id) old d → StaysBehind shared d ⊎ EndsAtFloor shared version id d
+ToppingUpKeeps = (shared : Shared) (keep : Bool) (version : Version) (id : ℕ) (old d : Disk) → IsToTopUp shared keep version id old → IsToppingUp keep version id (shared.ns version.ctime id) old d
+    → (StaysBehind shared d ⊎ EndsAtFloor shared version id d) × (keep ≡ true → saved d ≡ saved old)
 
--- Once it was topped up it ends there, if its files were certain.
+-- It ends at the floor beside its image; and what was saved stays if it is to, and is gone if it isn't.
+pub record StandsAtFloor (shared : Shared) (keep : Bool) (version : Version) (id : ℕ) (old d : Disk) : Type 0 where
+  pub ends : EndsAtFloor shared version id d
+  pub intact : EachLeft d (λ c. IsIntact (folder_at c Current) version id (shared.ns version.ctime id))
+  pub stays : saved d ≡ (if keep then saved old else None)
+
+-- So it is once it was topped up, if its files were certain.
 abbrev pub ToppedUpEnds : Type 0
 ToppedUpEnds = (shared : Shared) (keep : Bool) (version : Version) (id : ℕ) (i : ℕ) (old new : State) → IsToTopUp shared keep version id (disk_at old i) → IsSure Current i old → WasToppedUp keep version id (shared.ns version.ctime id) i old new
-    → EndsAtFloor shared version id (disk_at new i)
+    → StandsAtFloor shared keep version id (disk_at old i) (disk_at new i)
 
 -- ---- a directory whose previous is given up
 

@@ -1,4 +1,5 @@
 // What follows from the contracts of the steps on one directory, for the calls that compose them: no call does anything here.
+ghost use Rattle.nn_steps.specs.NotRaised.{ToppingUpIsNotRaised};
 ghost use Rattle.nn_steps.specs.Steps.{FreshIsKept, MakingKeeps, MadeEnds, SettledEnds, SettledStaysBehind, RecoveredIsSure, RecoveringKeeps, RecoveringLeavesBehind, RecoveringEnds, ClearingKeeps, GivingUpKeeps, ToppingUpKeeps, ToppedUpEnds, GivingUpEnds, TidyingEnds, LoggingEnds, PublishingEnds, PublishedIsIntact};
 
 /// A directory that isn't formatted is kept.
@@ -61,14 +62,21 @@ pub fn a_directory_given_up_ends()
     ensures { GivingUpEnds }
 {}
 
-/// A directory that the floor has left behind stays kept and behind at each moment of its topping up, or ends at the floor.
+/// A directory that the floor has left behind stays kept and behind at each moment of its topping up, or ends at the floor,
+/// and has the saved state that it had, if that is to stay.
 pub fn a_directory_in_topping_up_stays_behind_or_ends()
     ensures { ToppingUpKeeps }
 {}
 
-/// A directory that was topped up ends at the floor, if its files were certain.
+/// A directory that was topped up ends at the floor, beside an intact image, if its files were certain, and has the saved
+/// state that it had exactly if that is to stay.
 pub fn a_topped_up_directory_ends()
     ensures { ToppedUpEnds }
+{}
+
+/// The rank of a directory isn't raised at any moment of its topping up, but to the one to which it is brought.
+pub fn a_directory_in_topping_up_is_not_raised()
+    ensures { ToppingUpIsNotRaised }
 {}
 
 /// A directory ends where it ended at each moment of the publishing of the image at which its chain ends.
