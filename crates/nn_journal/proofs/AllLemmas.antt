@@ -9,12 +9,13 @@ use Rattle.nn_host.proofs.RunsLemmas.{throughout_trans, throughout_weaker, unspo
 use Rattle.nn_marks.specs.declared.version.Version.{Version}
 use Rattle.nn_segment_file.specs.Log.{Shared}
 use Rattle.nn_segment_file.specs.Steps.{Logged}
-use Rattle.nn_segment_file.specs.Stages.{Stage, last_of, IsAt, Does}
+use Rattle.nn_segment_file.specs.Stages.{Stage, base_of, last_of, StandsAt, Does, Leads}
 use Rattle.nn_segment_file.specs.declared.step.Step.{Step}
 use Rattle.nn_segment_file.proofs.BesideLemmas.{beside_refl}
 use Rattle.nn_segment_file.proofs.CallLemmas.{logs_weaker}
-use Rattle.nn_segment_file.proofs.StageLemmas.{stage_logs, does_grow}
-use Rattle.nn_journal.specs.Among.{AllAt, AmongAt, StaysLive, EachCounted, OrderedAt, SteppedAmong, SteppedAll}
+use Rattle.nn_segment_file.proofs.StageLemmas.{stage_logs, does_grow, leads_stands}
+use Rattle.nn_journal.specs.Among.{AllAt, AmongAt, StaysLive, EachCounted, OrderedAt, IsLeftAlone, LeavesAlone, SteppedAmong, SteppedAll}
+use Rattle.nn_journal.proofs.AmongLemmas.{calls_both}
 
 -- ---- parts of a set
 
@@ -99,6 +100,29 @@ module _ {told : Type 0} {step : Step} {first : ℕ} {bytes : List ℕ} {live ho
         inr (record { was_among = back.in_set j dropped.was_among; not_live = dropped.not_live; faults = dropped.faults ∙ ap next_count before.faults }))
   ]
 
+  -- ---- one that failed is left alone
+
+  left_first : told → (m : Moment) → IsLeftAlone holding a b m → IsLeftAlone live a c m
+  left_first tells m p = record {
+    others = λ j out. p.others j (not_live_front j out);
+    failed = λ j rose. ⊎_elim
+        (λ stays. absurd (omega (arith, rose, ap (λ (d : Dir). d.faults) (p.failed j rose), stays.faults)))
+        (λ dropped. p.failed j rose ∙ sym ((two.left.ends tells).others j (in_front j (front.in_set j dropped.was_among) (front.in_other j dropped.was_among))))
+        (one.counted j);
+  }
+
+  left_second : told → (m : Moment) → IsLeftAlone others b c m → IsLeftAlone live a c m
+  left_second tells m p = record {
+    others = λ j out. p.others j (not_live_back j out) ∙ (one.left.ends tells).others j (not_live_front j out);
+    failed = λ j rose. ⊎_elim
+        (λ stays. p.failed j (omega (arith, rose, stays.faults)))
+        (λ dropped. let out = in_front j (front.in_set j dropped.was_among) (front.in_other j dropped.was_among) in p.others j out ∙ sym ((two.left.ends tells).others j out))
+        (one.counted j);
+  }
+
+  all_left : LeavesAlone told live a c
+  all_left = throughout_trans (throughout_weaker one.left left_first) (throughout_weaker two.left left_second)
+
   module _ (version : Version) (list : Shared) (from to : Stage) (does : Does version list step first bytes from to) where
     module _ (start : told → AllAt version list from live a) where
       front_start : told → AllAt version list from holding a
@@ -112,14 +136,14 @@ module _ {told : Type 0} {step : Step} {first : ℕ} {bytes : List ℕ} {live ho
       back_same tells j out = ((one_run.ends tells).at j).same out
 
       back_start : told → AllAt version list from others b
-      back_start tells j there = subst (λ (d : Dir). IsAt version list from d.disk) (sym (back_same tells j (not_front j (back.in_other j there)))) (start tells j (back.in_set j there))
+      back_start tells j there = subst (λ (d : Dir). StandsAt version list from d.disk) (sym (back_same tells j (not_front j (back.in_other j there)))) (start tells j (back.in_set j there))
 
       two_run : Throughout told b c (EachDir (AmongAt version list from to others b))
       two_run = two.any_moment version list from to does back_start
 
       -- a directory that wasn't touched yet
-      untouched_yet : told → (j : ℕ) (d : Dir) → has live j ≡ true → d ≡ a.now.dirs j → Logged version list (last_of from) (last_of to) (disk_at a j) d.disk
-      untouched_yet tells j d is_live same = subst (λ (x : Dir). Logged version list (last_of from) (last_of to) (disk_at a j) x.disk) (sym same)
+      untouched_yet : told → (j : ℕ) (d : Dir) → has live j ≡ true → d ≡ a.now.dirs j → Logged version list (base_of from) (last_of from) (last_of to) (disk_at a j) d.disk
+      untouched_yet tells j d is_live same = subst (λ (x : Dir). Logged version list (base_of from) (last_of from) (last_of to) (disk_at a j) x.disk) (sym same)
           (record { logs = logs_weaker (last_of from) (last_of to) (omega arith) (does_grow does) (stage_logs version list from (disk_at a j) (start tells j is_live)); beside = beside_refl (disk_at a j) })
 
       first_at : told → (m : Moment) → EachDir (AmongAt version list from to holding a) m → EachDir (AmongAt version list from to live a) m
@@ -137,8 +161,8 @@ module _ {told : Type 0} {step : Step} {first : ℕ} {bytes : List ℕ} {live ho
       second_at tells m each = record {
         at = λ j. record {
           logged = λ is_live. elim (cases_Bool (has others j)) [
-            | inl there ↦ subst (λ (old : Dir). Logged version list (last_of from) (last_of to) old.disk (m.dirs j).disk) (back_same tells j (not_front j (back.in_other j there))) ((each.at j).logged there)
-            | inr out ↦ subst (λ (d : Dir). Logged version list (last_of from) (last_of to) (disk_at a j) d.disk) (sym ((each.at j).same out)) (((first_at tells b.now (one_run.ends tells)).at j).logged is_live)
+            | inl there ↦ subst (λ (old : Dir). Logged version list (base_of from) (last_of from) (last_of to) old.disk (m.dirs j).disk) (back_same tells j (not_front j (back.in_other j there))) ((each.at j).logged there)
+            | inr out ↦ subst (λ (d : Dir). Logged version list (base_of from) (last_of from) (last_of to) (disk_at a j) d.disk) (sym ((each.at j).same out)) (((first_at tells b.now (one_run.ends tells)).at j).logged is_live)
           ];
           same = λ out. (each.at j).same (not_live_back j out) ∙ back_same tells j (not_live_front j out);
         };
@@ -152,22 +176,22 @@ module _ {told : Type 0} {step : Step} {first : ℕ} {bytes : List ℕ} {live ho
       rose : (n : ℕ) → n < 2 ^ 64 - 1 → next_count n ≢ n
       rose n small e = omega (arith, small, e)
 
-      held : told → (m : Moment) → EachDir (AmongAt version list from to others b) m → (j : ℕ) → has live j ≡ true → has holders j ≡ true → faults_at a j < 2 ^ 64 - 1 → (m.dirs j).faults ≡ faults_at a j → IsAt version list to (m.dirs j).disk
+      held : told → (m : Moment) → EachDir (AmongAt version list from to others b) m → (j : ℕ) → has live j ≡ true → has holders j ≡ true → faults_at a j < 2 ^ 64 - 1 → (m.dirs j).faults ≡ faults_at a j → StandsAt version list to (m.dirs j).disk
       held tells m each j is_live holds small same =
           let there = (each.at j).same (in_front j is_live holds) in
           let counted : faults_at b j ≡ faults_at a j = sym (ap (λ (d : Dir). d.faults) there) ∙ same in
           let still : has live1 j ≡ true = ⊎_elim (λ stays. stays.same_live ∙ is_live) (λ dropped. absurd (rose (faults_at a j) small (sym dropped.faults ∙ counted))) (one.counted j) in
-          subst (λ (d : Dir). IsAt version list to d.disk) (sym there) (one.done version list from to does tells (front_start tells) j (front.all j is_live holds) still)
+          leads_stands does (m.dirs j).disk (subst (λ (d : Dir). Leads does d.disk) (sym there) (one.done version list from to does tells (front_start tells) j (front.all j is_live holds) still))
 
       all_ordered : Throughout told a c (OrderedAt version list to live holders a)
       all_ordered = throughout_trans
           (throughout_weaker one_run (λ tells m each. inl (λ j lacks. (each.at j).same (not_front j lacks))))
           (throughout_weaker two_run (λ tells m each. inr (held tells m each)))
 
-    all_done : told → AllAt version list from live a → (j : ℕ) → has live j ≡ true → has live2 j ≡ true → IsAt version list to (disk_at c j)
+    all_done : told → AllAt version list from live a → (j : ℕ) → has live j ≡ true → has live2 j ≡ true → Leads does (disk_at c j)
     all_done tells start j is_live still = elim (cases_Bool (has holders j)) [
       | inl holds ↦ (let mid : has live1 j ≡ true = ⊎_elim (λ stays. sym stays.same_live ∙ still) (λ dropped. absurd (clash still dropped.not_live)) (two.counted j) in
-          subst (λ (d : Dir). IsAt version list to d.disk) (sym ((((two_run (λ t. start)).ends tells).at j).same (in_front j is_live holds)))
+          subst (λ (d : Dir). Leads does d.disk) (sym ((((two_run (λ t. start)).ends tells).at j).same (in_front j is_live holds)))
           (one.done version list from to does tells (front_start (λ t. start) tells) j (front.all j is_live holds) mid))
       | inr lacks ↦ two.done version list from to does tells (back_start (λ t. start) tells) j (back.all j is_live lacks) still
     ]
@@ -181,6 +205,7 @@ module _ {told : Type 0} {step : Step} {first : ℕ} {bytes : List ℕ} {live ho
     any_moment = all_run;
     done = all_done;
     order = all_ordered;
+    left = all_left;
     quiet = unspoken_trans one.quiet two.quiet;
-    calls = λ tells is. omega (arith, one.calls tells is, two.calls tells is, few);
+    calls = λ tells. omega (arith, one.calls tells, two.calls tells, calls_both step (count_of holding) (count_of others) (count_of live) few);
   }

@@ -1,21 +1,27 @@
 -- What the journal has in mind after a step, and its live directories with it.
-use Rattle.std.proofs.Common.{◌≡◌, inl, ℕ, ◌+◌, ◌-◌, ◌<◌, ◌≤◌, Bool, true, false, List, [], ◌∷◌, ◌++◌, length, refl, sym, ◌∙◌, ap, subst, arith, length-append}
+use Rattle.std.proofs.lemmas.Bool.{cases_Bool}
+use Rattle.std.proofs.Common.{◌≡◌, inl, inr, ⊎_elim, ℕ, ◌+◌, ◌-◌, ◌<◌, ◌≤◌, Bool, true, false, List, [], ◌∷◌, ◌++◌, length, refl, sym, ◌∙◌, ap, subst, arith, length-append}
 use Rattle.nn_base.specs.DirSets.{Members, has}
-use Rattle.nn_host.specs.Moments.{State}
-use Rattle.nn_host.proofs.RunsLemmas.{unspoken_refl, unspoken_trans}
+use Rattle.nn_base.specs.declared.file_name.FileName.TheVariants.{InProgress, Edits}
+use Rattle.nn_host.specs.Moments.{State, Moment, Dir, disk_at}
+use Rattle.nn_host.proofs.RunsLemmas.{throughout_refl, throughout_trans, throughout_weaker, unspoken_refl, unspoken_trans}
 use Rattle.nn_marks.specs.declared.version.Version.{Version}
 use Rattle.nn_record.specs.declared.transaction.Record.{Record}
 use Rattle.nn_record.specs.Spelling.{spelling, IsRecord}
 use Rattle.nn_segment.proofs.RunLemmas.{spelled-nil}
-use Rattle.nn_segment_file.specs.Log.{Shared}
-use Rattle.nn_segment_file.specs.Stages.{Stage, Ended, Going}
+use Rattle.nn_segment_file.specs.Log.{Shared, IsFinalized}
+use Rattle.nn_segment_file.specs.Stages.{Stage, Ended, Going, Ends, base_of}
 use Rattle.nn_segment_file.specs.declared.step.Step.{Step}
 use Rattle.nn_segment_file.specs.declared.step.Step.TheVariants as step
-use Rattle.nn_journal.specs.Among.{AllAt, SteppedAll}
+use Rattle.nn_journal.specs.Among.{AllAt, EachCounted, IsLeftAlone, SteppedAll}
 use Rattle.nn_journal.specs.Carried.{Carried}
-use Rattle.nn_journal.specs.Places.{Place, end_record, start_record, IsInProgress, IsBetween, HasCome, Brings, BringsLogged, BringsAhead, BringsLoggedAhead, HasSettled, Went, most_unended}
+use Rattle.nn_journal.specs.Places.{Place, end_record, start_record, IsInProgress, IsBetween, Matches, HasCome, Brings, BringsLogged, BringsAhead, BringsLoggedAhead, Went, most_unended}
+use Rattle.nn_journal.specs.Finalizing.{Finalizes}
+use Rattle.nn_journal.specs.Rolling.{HasSettled}
+use Rattle.nn_segment_file.proofs.BesideLemmas.{older_not_log}
+use Rattle.nn_segment_file.proofs.StageLemmas.{ended_finalized}
 use Rattle.nn_journal.proofs.CarriedLemmas.{carried_none, carried_step, carried_both, carried_lower, counted_both, still_live}
-use Rattle.nn_journal.proofs.MarkLemmas.{one_spelled, none_logged, end_does, start_does, logged_size, write_does}
+use Rattle.nn_journal.proofs.MarkLemmas.{one_spelled, none_logged, end_goes, end_count, start_does, logged_size, write_does}
 
 -- ---- one step
 
@@ -59,6 +65,21 @@ begun p0 p1 version list end m placed =
       steady = λ n le. m.steady n (omega (arith, le, placed.last, m.last));
     }
 
+-- the records that were logged are kept once they are written
+pub wrote_place : (p0 p1 : Place) (bytes : List ℕ) (version : Version) (list : Shared) (base : ℕ) (kept logged : List Record) → IsInProgress version list base kept logged bytes p0 → Wrote (length bytes) p0 p1 → IsInProgress version list base (kept ++ logged) [] [] p1
+wrote_place p0 p1 bytes version list base kept logged m placed = record {
+  going = placed.going ∙ m.going;
+  head = m.head ∙ sym placed.head;
+  first = placed.first ∙ m.first;
+  last = omega (arith, placed.last, m.last, length-append kept logged);
+  some = omega (arith, m.some, length-append kept logged);
+  size = placed.size ∙ sym (logged_size version list base kept logged bytes p0 m);
+  text = sym spelled-nil;
+  ids = tt;
+  follows = tt;
+  steady = λ n le. m.steady n (omega (arith, le, placed.last));
+}
+
 module _ {told : Type 0} {holders live0 live1 : Members} {a b : State} (p0 p1 : Place) where
   pub start_brings : SteppedAll told step.Start (p0.last + 1) (p0.head ++ spelling (start_record (p0.last + 1))) holders live0 live1 a b → IsRecord (start_record (p0.last + 1)) → p0.going ≡ false → Began p0 p1 → Brings told p0 p1 p1.last holders live0 live1 a b
   start_brings stepped is idle placed version list (Going base kept) m start = absurd (clash m.going idle)
@@ -75,7 +96,7 @@ module _ {told : Type 0} {holders live0 live1 : Members} {a b : State} (p0 p1 : 
   pub end_brings : SteppedAll told (step.End (p0.last + 1)) p0.first (spelling (end_record (p0.last + 1))) holders live0 live1 a b → IsRecord (end_record (p0.last + 1)) → p0.size ≤ most_unended → p0.going ≡ true → Finished p0 p1 → Brings told p0 p1 p1.last holders live0 live1 a b
   end_brings stepped is small going placed version list (Ended end) m start = absurd (clash going m.going)
   end_brings stepped is small going placed version list (Going base kept) m start =
-      let from : Carried told version list (Going base kept) (Ended (p0.last + 1)) (p0.last + 1) holders live0 live1 a b = carried_step (end_does version list base kept p0 m small is) start stepped in
+      let from : Carried told version list (Going base kept) (Ended (p0.last + 1)) (p0.last + 1) holders live0 live1 a b = carried_step (Ends (end_goes version list base kept p0 m small is) (end_count version list base kept p0 m)) start stepped in
       record {
         to = Ended (p0.last + 1);
         matches = record { going = placed.going; head = m.head ∙ sym placed.head; last = placed.last; steady = λ n le. m.steady n (omega (arith, le)) };
@@ -88,20 +109,60 @@ module _ {told : Type 0} {holders live0 live1 : Members} {a b : State} (p0 p1 : 
       let from : Carried told version list (Going base kept) (Going base (kept ++ logged)) (base + length (kept ++ logged)) holders live0 live1 a b = carried_step (write_does version list base kept logged bytes p0 m some (omega (arith, small))) start stepped in
       record {
         to = Going base (kept ++ logged);
-        matches = record {
-          going = placed.going ∙ m.going;
-          head = m.head ∙ sym placed.head;
-          first = placed.first ∙ m.first;
-          last = omega (arith, at);
-          some = omega (arith, m.some, length-append kept logged);
-          size = placed.size ∙ sym (logged_size version list base kept logged bytes p0 m);
-          text = sym spelled-nil;
-          ids = tt;
-          follows = tt;
-          steady = λ n le. m.steady n (omega (arith, le, placed.last));
-        };
+        matches = wrote_place p0 p1 bytes version list base kept logged m placed;
         carried = subst (λ (n : ℕ). Carried told version list (Going base kept) (Going base (kept ++ logged)) n holders live0 live1 a b) at from;
       }
+
+  -- the live ones have them
+  pub write_stands : (bytes : List ℕ) → SteppedAll told step.Write p0.first bytes holders live0 live1 a b → 1 ≤ length bytes → p0.size + length bytes ≤ most_unended → (version : Version) (list : Shared) (base : ℕ) (kept logged : List Record) → IsInProgress version list base kept logged bytes p0
+      → (told → AllAt version list (Going base kept) live0 a) → told → AllAt version list (Going base (kept ++ logged)) live1 b
+  write_stands bytes stepped some small version list base kept logged m start tells = (carried_step (write_does version list base kept logged bytes p0 m some (omega (arith, small))) start stepped).stands tells
+
+  -- ---- a segment that was ended
+
+  pub end_finalizes : SteppedAll told (step.End (p0.last + 1)) p0.first (spelling (end_record (p0.last + 1))) holders live0 live1 a b → IsRecord (end_record (p0.last + 1)) → p0.size ≤ most_unended → Finalizes told p0 live0 live1 a b
+  end_finalizes stepped is small version list base kept m start tells j is_live =
+      let r = end_record (p0.last + 1) in
+      subst (λ (n : ℕ). IsFinalized version.layout n (p0.last + 1) (kept ++ r ∷ []) (disk_at b j)) (sym m.first)
+      (ended_finalized (stepped.done version list (Going base kept) (Ended (p0.last + 1)) (Ends (end_goes version list base kept p0 m small is) (end_count version list base kept p0 m)) tells (start tells) j (still_live stepped.counted j is_live) is_live))
+
+-- where no segment is in progress
+pub none_finalizes : {told : Type 0} (p0 : Place) (live0 live1 : Members) (a b : State) → p0.going ≡ false → Finalizes told p0 live0 live1 a b
+none_finalizes p0 live0 live1 a b idle version list base kept m start = absurd (clash m.going idle)
+
+-- the live ones come to another stage, however low those that are dropped are
+abbrev pub BringsOn : Type 0 → Place → Place → Members → Members → Members → State → State → Type 0
+BringsOn told old_place place holders old_live live old new = (version : Version) (list : Shared) (from : Stage) → Matches version list from old_place → (told → AllAt version list from old_live old) → (below : ℕ) × HasCome told version list from place below holders old_live live old new
+
+pub brings_on : {told : Type 0} {p0 p1 : Place} {holders live0 live1 : Members} {a b : State} (below : ℕ) → Brings told p0 p1 below holders live0 live1 a b → BringsOn told p0 p1 holders live0 live1 a b
+brings_on below p version list from m start = (below, p version list from m start)
+
+pub ahead_on : {told : Type 0} {p0 p1 : Place} {holders live0 live1 : Members} {a b : State} → BringsAhead told p0 p1 holders live0 live1 a b → BringsOn told p0 p1 holders live0 live1 a b
+ahead_on p version list from m start = let come = p version list from m start in (come.0, come.2)
+
+-- what comes later doesn't touch it
+pub finalized_then : {told : Type 0} {p0 p1 p2 : Place} {b1 : ℕ} {holders live0 live1 live2 : Members} {a b c : State} → Finalizes told p0 live0 live1 a b → Brings told p0 p1 b1 holders live0 live1 a b → BringsOn told p1 p2 holders live1 live2 b c
+    → ((version : Version) (list : Shared) (stage : Stage) → Matches version list stage p1 → p0.going ≡ true → p0.first ≤ p0.last → p0.first ≤ base_of stage) → Finalizes told p0 live0 live2 a c
+finalized_then {p0 = p0} done one two later version list base kept m start tells j is_live =
+    let come = one version list (Going base kept) m start in
+    let then = (two version list come.to come.matches come.carried.stands).1 in
+    let was = still_live then.carried.counted j is_live in
+    let at = done version list base kept m start tells j was in
+    let beside = (((then.carried.any_moment.ends tells).at j).logged was).beside in
+    let low = later version list come.to come.matches m.going (omega (arith, m.first, m.last, m.some)) in
+    record {
+      whole = beside.other_files (Edits (p0.first, p0.last + 1)) (older_not_log (Edits (p0.first, p0.last + 1)) p0.first refl low) ∙ at.whole;
+      gone = beside.other_files (InProgress p0.first) (older_not_log (InProgress p0.first) p0.first refl low) ∙ at.gone;
+    }
+
+-- a place between two segments, and one in a later segment
+pub idle_base : (version : Version) (list : Shared) (p : Place) (stage : Stage) → Matches version list stage p → p.going ≡ false → base_of stage ≡ p.last
+idle_base version list p (Ended last) m idle = sym m.last
+idle_base version list p (Going base kept) m idle = absurd (clash m.going idle)
+
+pub going_base : (version : Version) (list : Shared) (p : Place) (stage : Stage) → Matches version list stage p → p.going ≡ true → base_of stage + 1 ≡ p.first
+going_base version list p (Ended last) m going = absurd (clash going m.going)
+going_base version list p (Going base kept) m going = sym m.first
 
 -- nothing done
 pub brings_none : {told : Type 0} {holders live : Members} {a : State} (p : Place) (below : ℕ) → Brings told p p below holders live live a a
@@ -138,13 +199,39 @@ pub brings_lower : {told : Type 0} {p0 p1 : Place} {below : ℕ} {holders live0 
 brings_lower low same p version list from m start = come_lower low same (p version list from m start)
 
 pub went_refl : {told : Type 0} {live : Members} {a : State} → Went told live live a a
-went_refl = record { counted = λ j. inl (record { same_live = refl; faults = refl }); quiet = unspoken_refl }
+went_refl = record { counted = λ j. inl (record { same_live = refl; faults = refl }); left = throughout_refl (λ tells. record { others = λ j out. refl; failed = λ j rose. refl }); quiet = unspoken_refl }
 
-pub went_both : {told : Type 0} {live0 live1 live2 : Members} {a b c : State} → Went told live0 live1 a b → Went told live1 live2 b c → Went told live0 live2 a c
-went_both one two = record { counted = counted_both one.counted two.counted; quiet = unspoken_trans one.quiet two.quiet }
+-- one that isn't live stays so
+stays_out : {among old_live live : Members} {a b : State} → EachCounted among old_live live a b → (j : ℕ) → has old_live j ≡ false → has live j ≡ false
+stays_out {live = live} counted j out = elim (cases_Bool (has live j)) [
+  | inl there ↦ absurd (clash (still_live counted j there) out)
+  | inr none ↦ none
+]
+
+module _ {told : Type 0} {live0 live1 live2 : Members} {a b c : State} (one : Went told live0 live1 a b) (two : Went told live1 live2 b c) where
+  left_first : told → (m : Moment) → IsLeftAlone live0 a b m → IsLeftAlone live0 a c m
+  left_first tells m p = record {
+    others = p.others;
+    failed = λ j rose. ⊎_elim
+        (λ stays. absurd (omega (arith, rose, ap (λ (d : Dir). d.faults) (p.failed j rose), stays.faults)))
+        (λ dropped. p.failed j rose ∙ sym ((two.left.ends tells).others j dropped.not_live))
+        (one.counted j);
+  }
+
+  left_second : told → (m : Moment) → IsLeftAlone live1 b c m → IsLeftAlone live0 a c m
+  left_second tells m p = record {
+    others = λ j out. p.others j (stays_out one.counted j out) ∙ (one.left.ends tells).others j out;
+    failed = λ j rose. ⊎_elim
+        (λ stays. p.failed j (omega (arith, rose, stays.faults)))
+        (λ dropped. p.others j dropped.not_live ∙ sym ((two.left.ends tells).others j dropped.not_live))
+        (one.counted j);
+  }
+
+  pub went_both : Went told live0 live2 a c
+  went_both = record { counted = counted_both one.counted two.counted; left = throughout_trans (throughout_weaker one.left left_first) (throughout_weaker two.left left_second); quiet = unspoken_trans one.quiet two.quiet }
 
 pub went_step : {told : Type 0} {step : Step} {first : ℕ} {bytes : List ℕ} {holders live0 live1 : Members} {a b : State} → SteppedAll told step first bytes holders live0 live1 a b → Went told live0 live1 a b
-went_step stepped = record { counted = stepped.counted; quiet = stepped.quiet }
+went_step stepped = record { counted = stepped.counted; left = stepped.left; quiet = stepped.quiet }
 
 -- a live directory is one of the host's
 pub went_below : {told : Type 0} {live0 live1 : Members} {a b : State} → Went told live0 live1 a b → ((j : ℕ) → has live0 j ≡ true → j < a.count) → (j : ℕ) → has live1 j ≡ true → j < b.count

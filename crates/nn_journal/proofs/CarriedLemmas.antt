@@ -1,6 +1,8 @@
 -- Steps in all live directories, one after another.
-use Rattle.std.proofs.Common.{◌≡◌, inl, inr, ⊎_elim, ℕ, ◌≤◌, Bool, true, false, List, refl, sym, ◌∙◌, ap, subst, arith}
-use Rattle.std.proofs.lemmas.Bool.{cases_Bool}
+use Rattle.std.proofs.Common.{◌≡◌, inl, inr, ⊎_elim, ℕ, ◌≤◌, None, Bool, true, false, List, refl, sym, ◌∙◌, ap, subst, arith}
+use Rattle.std.proofs.lemmas.Bool.{cases_Bool, cases_order}
+use Rattle.nn_base.specs.declared.sub.Sub.TheVariants.{Current}
+use Rattle.nn_base.specs.declared.file_name.FileName.TheVariants.{InProgress}
 use Rattle.nn_base.specs.DirSets.{Members, has}
 use Rattle.nn_host.specs.Moments.{State, Moment, Dir, disk_at}
 use Rattle.nn_host.specs.Calls.{next_count}
@@ -9,14 +11,14 @@ use Rattle.nn_host.proofs.RunsLemmas.{throughout_trans, throughout_weaker, throu
 use Rattle.nn_marks.specs.declared.version.Version.{Version}
 use Rattle.nn_segment_file.specs.Log.{Shared, Logs}
 use Rattle.nn_segment_file.specs.Steps.{Logged}
-use Rattle.nn_segment_file.specs.Stages.{Stage, last_of, Does}
+use Rattle.nn_segment_file.specs.Stages.{Stage, Ended, Going, base_of, last_of, IsBegun, OneInProgress, Does}
 use Rattle.nn_journal.specs.Among.{AllAt, AmongAt, EachCounted, SteppedAll}
 use Rattle.nn_journal.specs.Carried.{Carried}
 use Rattle.nn_segment_file.specs.declared.step.Step.{Step}
-use Rattle.nn_segment_file.proofs.BesideLemmas.{beside_refl}
+use Rattle.nn_segment_file.proofs.BesideLemmas.{beside_refl, older_not_log}
 use Rattle.nn_journal.proofs.AheadLemmas.{ahead_none, ahead_step, ahead_both}
 use Rattle.nn_segment_file.proofs.CallLemmas.{logs_weaker, logged_weaker}
-use Rattle.nn_segment_file.proofs.StageLemmas.{stage_logs, does_grow}
+use Rattle.nn_segment_file.proofs.StageLemmas.{stage_logs, stage_alone, leads_stands, leads_alone, does_grow, does_rise}
 
 clash : {b : Bool} → b ≡ true → b ≡ false → ⊥
 clash t f = let apart = sym t ∙ f in cc
@@ -29,6 +31,8 @@ still_live counted j is_live = ⊎_elim (λ stays. sym stays.same_live ∙ is_li
 pub carried_none : {told : Type 0} {version : Version} {list : Shared} {stage : Stage} {holders live : Members} {a : State} (below : ℕ) → (told → AllAt version list stage live a) → Carried told version list stage stage below holders live live a a
 carried_none {told} {version} {list} {stage} {holders} {live} {a} below start = record {
   grows = omega arith;
+  rises = omega arith;
+  alone = λ tells j is_live. stage_alone version list stage (disk_at a j) (start tells j is_live);
   counted = λ j. inl (record { same_live = refl; faults = refl });
   any_moment = throughout_refl (λ tells. record { at = λ j. record { logged = λ is_live. record { logs = stage_logs version list stage (disk_at a j) (start tells j is_live); beside = beside_refl (disk_at a j) }; same = λ out. refl } });
   stands = start;
@@ -41,12 +45,19 @@ pub carried_step : {told : Type 0} {version : Version} {list : Shared} {from to 
     → SteppedAll told step first bytes holders old_live live a b → Carried told version list from to (last_of to) holders old_live live a b
 carried_step {told} {version} {list} {from} {to} {step} {first} {bytes} {holders} {old_live} {live} {a} {b} does start stepped = record {
   grows = does_grow does;
+  rises = does_rise does;
+  alone = λ tells j is_live. leads_alone does (disk_at b j) (stepped.done version list from to does tells (start tells) j (still_live stepped.counted j is_live) is_live);
   counted = stepped.counted;
   any_moment = stepped.any_moment version list from to does start;
-  stands = λ tells j is_live. stepped.done version list from to does tells (start tells) j (still_live stepped.counted j is_live) is_live;
+  stands = λ tells j is_live. leads_stands does (disk_at b j) (stepped.done version list from to does tells (start tells) j (still_live stepped.counted j is_live) is_live);
   dropped = λ tells j was lost. ((((stepped.any_moment version list from to does start).ends tells).at j).logged was).logs;
   ahead = ahead_step does start stepped;
 }
+
+-- a stage's segment in progress begins behind its base
+not_begun : (stage : Stage) (first : ℕ) → first ≤ base_of stage → ¬ IsBegun stage first
+not_begun (Ended last) first le is = is
+not_begun (Going base kept) first le is = omega (arith, le, is)
 
 -- counts, one after another
 pub counted_both : {live0 live1 live2 : Members} {a b c : State} → EachCounted live0 live0 live1 a b → EachCounted live1 live1 live2 b c → EachCounted live0 live0 live2 a c
@@ -69,7 +80,7 @@ module _ {told : Type 0} {version : Version} {list : Shared} {from mid to : Stag
   first_part : told → (m : Moment) → EachDir (AmongAt version list from mid live0 a) m → EachDir (AmongAt version list from to live0 a) m
   first_part tells m each = record {
     at = λ j. record {
-      logged = λ is_live. logged_weaker (disk_at a j) (last_of from) (last_of to) (beside_refl (disk_at a j)) (omega arith) two.grows ((each.at j).logged is_live);
+      logged = λ is_live. logged_weaker (disk_at a j) (last_of from) (last_of to) (beside_refl (disk_at a j)) (omega arith) (omega arith) two.grows ((each.at j).logged is_live);
       same = (each.at j).same;
     };
   }
@@ -81,8 +92,8 @@ module _ {told : Type 0} {version : Version} {list : Shared} {from mid to : Stag
   second_part tells m each = record {
     at = λ j. record {
       logged = λ is_live. elim (cases_Bool (has live1 j)) [
-        | inl still ↦ logged_weaker (disk_at a j) (last_of from) (last_of to) (((by_then tells).at j).logged is_live).beside one.grows (omega arith) ((each.at j).logged still)
-        | inr lost ↦ subst (λ (d : Dir). Logged version list (last_of from) (last_of to) (disk_at a j) d.disk) (sym ((each.at j).same lost)) (((by_then tells).at j).logged is_live)
+        | inl still ↦ logged_weaker (disk_at a j) (last_of from) (last_of to) (((by_then tells).at j).logged is_live).beside one.rises one.grows (omega arith) ((each.at j).logged still)
+        | inr lost ↦ subst (λ (d : Dir). Logged version list (base_of from) (last_of from) (last_of to) (disk_at a j) d.disk) (sym ((each.at j).same lost)) (((by_then tells).at j).logged is_live)
       ];
       same = λ out. (each.at j).same (elim (cases_Bool (has live1 j)) [
         | inl still ↦ absurd (clash (still_live one.counted j still) out)
@@ -98,9 +109,23 @@ module _ {told : Type 0} {version : Version} {list : Shared} {from mid to : Stag
   first_dropped : told → (j : ℕ) → has live0 j ≡ true → has live1 j ≡ false → Logs version list (last_of from) below1 (disk_at c j)
   first_dropped tells j was lost = subst (λ (d : Dir). Logs version list (last_of from) below1 d.disk) (sym (((two.any_moment.ends tells).at j).same lost)) (one.dropped tells j was lost)
 
+  -- a segment in progress that is no later than the second stage's is as the first left it
+  both_alone : told → (j : ℕ) → has live2 j ≡ true → OneInProgress from to (disk_at c j)
+  both_alone tells j is_live first ranged above other =
+      let was = still_live two.counted j is_live in
+      let older : first ≤ base_of mid → (disk_at c j).file Current (InProgress first) ≡ None = λ le.
+      (((two.any_moment.ends tells).at j).logged was).beside.other_files (InProgress first) (older_not_log (InProgress first) first refl le) ∙ one.alone tells j was first ranged above (not_begun mid first le) in
+      elim (cases_order first (base_of mid)) [
+        | inl same ↦ older (omega (arith, same))
+        | inr (inl less) ↦ older (omega (arith, less))
+        | inr (inr more) ↦ two.alone tells j is_live first ranged more other
+      ]
+
   pub carried_both : (below : ℕ) → below1 ≤ below → below2 ≤ below → Carried told version list from to below holders live0 live2 a c
   carried_both below low high = record {
     grows = omega (arith, one.grows, two.grows);
+    rises = omega (arith, one.rises, two.rises);
+    alone = both_alone;
     counted = both_counted;
     any_moment = both_run;
     stands = two.stands;
@@ -115,6 +140,8 @@ module _ {told : Type 0} {version : Version} {list : Shared} {from mid to : Stag
 pub carried_lower : {told : Type 0} {version : Version} {list : Shared} {from to : Stage} {below : ℕ} {holders old_live live : Members} {a b : State} (low : ℕ) → live ≡ old_live → Carried told version list from to below holders old_live live a b → Carried told version list from to low holders old_live live a b
 carried_lower low same p = record {
   grows = p.grows;
+  rises = p.rises;
+  alone = p.alone;
   counted = p.counted;
   any_moment = p.any_moment;
   stands = p.stands;

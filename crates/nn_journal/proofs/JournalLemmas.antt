@@ -1,13 +1,18 @@
 -- What the steps of a journal make of it and its directories.
-use Rattle.std.proofs.Common.{◌≡◌, ℕ, ◌+◌, ◌≤◌, Bool, true, false, ◌++◌, length, subst, arith}
+use Rattle.std.proofs.Common.{◌≡◌, ◌≢◌, ◌⊎◌, inl, inr, ⊎_elim, ℕ, ◌+◌, ◌<◌, ◌≤◌, Bool, true, false, [], ◌∷◌, ◌++◌, length, ◌∙◌, subst, arith}
+use Rattle.std.proofs.lemmas.Bool.{cases_Bool}
 use Rattle.nn_base.specs.DirSets.{Members}
-use Rattle.nn_host.specs.Moments.{State}
+use Rattle.nn_host.specs.Moments.{State, disk_at}
+use Rattle.nn_segment_file.specs.Log.{IsFinalized}
 use Rattle.nn_record.specs.Spelling.{spelling, IsRecord}
 use Rattle.nn_segment_file.specs.declared.step.Step.TheVariants as step
 use Rattle.nn_journal.specs.Among.{SteppedAll}
-use Rattle.nn_journal.specs.Places.{Place, Brings, BringsAhead, BringsLogged, BringsLoggedAhead, HasSettled, end_record, start_record, place_of, most_unended}
+use Rattle.nn_journal.specs.Places.{Place, Brings, BringsAhead, BringsLogged, BringsLoggedAhead, end_record, start_record, place_of, most_unended, full_segment}
+use Rattle.nn_journal.specs.Finalizing.{Finalizes, FinalizesLogged}
+use Rattle.nn_journal.specs.Rolling.{HasSettled}
 use Rattle.nn_journal.specs.declared.journal.JournalSet.{JournalSet}
-use Rattle.nn_journal.proofs.BringsLemmas.{end_brings, start_brings, write_brings, brings_both, settled_ahead, logged_ahead}
+use Rattle.nn_journal.proofs.BringsLemmas.{end_brings, start_brings, write_brings, brings_both, brings_on, finalized_then, idle_base, settled_ahead, logged_ahead, Wrote, wrote_place, write_stands}
+use Rattle.nn_journal.proofs.RoundLemmas.{settled_ended}
 
 brings_holders : {told : Type 0} {p0 p1 : Place} {below : ℕ} {other holders live0 live1 : Members} {a b : State} → other ≡ holders → Brings told p0 p1 below other live0 live1 a b → Brings told p0 p1 below holders live0 live1 a b
 brings_holders {told} {p0} {p1} {below} {other} {holders} {live0} {live1} {a} {b} same p = subst (λ (h : Members). Brings told p0 p1 below h live0 live1 a b) same p
@@ -30,6 +35,11 @@ pub both_of : {told : Type 0} {a b c : State} (j0 j1 j2 : JournalSet) → j1.hol
     → Brings told (place_of j0) (place_of j2) j2.last j0.holders j0.live j2.live a c
 both_of j0 j1 j2 holders next one two = brings_both j2.last (omega (arith, next)) (omega arith) one (brings_holders holders two)
 
+-- the end of a segment, and then the start of the next
+pub both_ended : {told : Type 0} {b1 b2 : ℕ} {a b c : State} (j0 j1 j2 : JournalSet) → j1.holders ≡ j0.holders → j1.going ≡ false → j1.last ≡ j0.last + 1 → Finalizes told (place_of j0) j0.live j1.live a b → Brings told (place_of j0) (place_of j1) b1 j0.holders j0.live j1.live a b
+    → Brings told (place_of j1) (place_of j2) b2 j1.holders j1.live j2.live b c → Finalizes told (place_of j0) j0.live j2.live a c
+both_ended {b2 = b2} j0 j1 j2 holders idle next done one two = finalized_then done one (brings_on b2 (brings_holders holders two)) (λ version list stage m going order. omega (arith, idle_base version list (place_of j1) stage m idle, next, order))
+
 -- ---- a step and what follows it
 
 settled_holders : {told : Type 0} {again : Bool} {p1 p2 : Place} {other holders live1 live2 : Members} {b c : State} → other ≡ holders → HasSettled again told p1 p2 other live1 live2 b c → HasSettled again told p1 p2 holders live1 live2 b c
@@ -41,3 +51,19 @@ module _ {told : Type 0} {a b c : State} (j0 j1 j2 : JournalSet) (again : Bool) 
 
   pub logged_ahead_of : j1.last ≡ j0.last → BringsLogged told j0.buffer.items (place_of j0) (place_of j1) j1.last j0.holders j0.live j1.live a b → HasSettled again told (place_of j1) (place_of j2) j1.holders j1.live j2.live b c → BringsLoggedAhead told j0.buffer.items (place_of j0) (place_of j2) j0.holders j0.live j2.live a c
   logged_ahead_of last brings settled = logged_ahead again one last brings (settled_holders holders settled)
+
+  -- the segment that was ended stays so
+  pub ended_of : {b1 : ℕ} → j1.going ≡ false → j1.last ≡ j0.last + 1 → Finalizes told (place_of j0) j0.live j1.live a b → Brings told (place_of j0) (place_of j1) b1 j0.holders j0.live j1.live a b → HasSettled again told (place_of j1) (place_of j2) j1.holders j1.live j2.live b c → Finalizes told (place_of j0) j0.live j2.live a c
+  ended_of idle next ended brings settled = settled_ended again idle next ended brings (settled_holders holders settled)
+
+-- ---- records are written, and then their segment is ended
+
+module _ {told : Type 0} {a b c : State} (j0 j1 j2 : JournalSet) (again : Bool) (one : again ≡ false → (j1.live ≡ j0.live) × (j1.size ≤ full_segment)) where
+  pub logged_finalizes : SteppedAll told step.Write j0.first j0.buffer.items j0.holders j0.live j1.live a b → 1 ≤ length j0.buffer.items → j0.size + length j0.buffer.items ≤ most_unended → Wrote (length j0.buffer.items) (place_of j0) (place_of j1)
+      → HasSettled again told (place_of j1) (place_of j2) j1.holders j1.live j2.live b c → (j2.live ≢ j0.live) ⊎ (full_segment < j1.size) → FinalizesLogged told j0.buffer.items (place_of j0) j0.live j2.live a c
+  logged_finalizes stepped some small placed settled why version list base kept logged m start tells j is_live = elim (cases_Bool again) [
+    | inl is ↦ (let at = (settled.rolled is).ended version list base (kept ++ logged) (wrote_place (place_of j0) (place_of j1) j0.buffer.items version list base kept logged m placed) (write_stands (place_of j0) (place_of j1) j0.buffer.items stepped some small version list base kept logged m start) tells j is_live in
+        subst (λ (n : ℕ). IsFinalized version.layout j0.first (n + 1) ((kept ++ logged) ++ end_record (n + 1) ∷ []) (disk_at c j)) placed.last
+        (subst (λ (n : ℕ). IsFinalized version.layout n (j1.last + 1) ((kept ++ logged) ++ end_record (j1.last + 1) ∷ []) (disk_at c j)) placed.first at))
+    | inr is ↦ absurd (⊎_elim (λ ne. ne ((settled.stayed is).1 ∙ (one is).0)) (λ full. omega (arith, full, (one is).1)) why)
+  ]

@@ -6,3 +6,4 @@ pub mod MarkLemmas
 pub mod BringsLemmas
 pub mod RoundLemmas
 pub mod JournalLemmas
+pub mod LoggingLemmas

@@ -1,7 +1,7 @@
 -- What the steps do: the records and bytes that go behind a segment, and the stage that they lead to.
 use Rattle.std.proofs.Common.{◌≡◌, inl, inr, ℕ, ℤ, ◌+◌, ◌≤◌, ◌==◌, Bool, true, false, List, [], ◌∷◌, ◌++◌, length, refl, sym, ◌∙◌, ap, subst, arith, length-append, append-nil}
 use Rattle.std.proofs.lemmas.Bool.Decides.{eqb_tells}
-use Rattle.nn_base.specs.Limits.{most_segment_read}
+use Rattle.nn_base.specs.Limits.{most_segment}
 use Rattle.nn_marks.specs.declared.version.Version.{Version}
 use Rattle.nn_record.specs.declared.transaction.Record.{Record}
 use Rattle.nn_record.specs.Spelling.{spelling, body_bytes, IsRecord}
@@ -9,7 +9,8 @@ use Rattle.nn_record.proofs.RecordLemmas.{length-spelling}
 use Rattle.nn_segment.specs.Segment.{header, spelled}
 use Rattle.nn_segment.proofs.RunLemmas.{spelled-cons, spelled-nil}
 use Rattle.nn_segment_file.specs.Log.{Shared, segment_text}
-use Rattle.nn_segment_file.specs.Stages.{Ended, Going, Does, Starts, Adds, Ends}
+use Rattle.nn_segment_file.specs.Steps.{GoesOn}
+use Rattle.nn_segment_file.specs.Stages.{Ended, Going, Does, Starts, Adds}
 use Rattle.nn_segment_file.specs.declared.step.Step.TheVariants as step
 use Rattle.nn_segment_file.proofs.StepLemmas.{adds_more}
 use Rattle.nn_journal.specs.Places.{Place, end_record, start_record, IsSteady, IsInProgress, most_unended}
@@ -43,20 +44,25 @@ some_logged (r ∷ rs) some = omega arith
 -- ---- what each step does
 
 module _ (version : Version) (list : Shared) where
-  pub end_does : (base : ℕ) (kept : List Record) (place : Place) → IsInProgress version list base kept [] [] place → place.size ≤ most_unended → IsRecord (end_record (place.last + 1))
-      → Does version list (step.End (place.last + 1)) place.first (spelling (end_record (place.last + 1))) (Going base kept) (Ended (place.last + 1))
-  end_does base kept place p small is =
-      let r = end_record (place.last + 1) in
-      let at : place.last ≡ base + length kept = omega (arith, p.last) in
-      let adds : segment_text version.layout (kept ++ r ∷ []) ≡ segment_text version.layout kept ++ spelling r = adds_more version.layout kept (r ∷ []) p.some ∙ ap (λ t. segment_text version.layout kept ++ t) (one_spelled r) in
-      Ends (record {
-        begins = p.first;
-        some = omega arith;
-        adds = adds;
-        ids = (omega (arith, at), is, tt);
-        follows = (tt, subst (λ (n : ℕ). list (n + 1) ≡ list n) at (p.steady place.last (omega arith)), tt);
-        small = omega (arith, ap length adds, length-append (segment_text version.layout kept) (spelling r), length-end (place.last + 1), p.size, small);
-      }) (omega (arith, at, length-append kept (r ∷ [])))
+  module _ (base : ℕ) (kept : List Record) (place : Place) (p : IsInProgress version list base kept [] [] place) where
+    ended_at : place.last ≡ base + length kept
+    ended_at = omega (arith, p.last)
+
+    pub end_goes : place.size ≤ most_unended → IsRecord (end_record (place.last + 1)) → GoesOn version list base kept (end_record (place.last + 1) ∷ []) place.first (spelling (end_record (place.last + 1)))
+    end_goes small is =
+        let r = end_record (place.last + 1) in
+        let adds : segment_text version.layout (kept ++ r ∷ []) ≡ segment_text version.layout kept ++ spelling r = adds_more version.layout kept (r ∷ []) p.some ∙ ap (λ t. segment_text version.layout kept ++ t) (one_spelled r) in
+        record {
+          begins = p.first;
+          some = omega arith;
+          adds = adds;
+          ids = (omega (arith, ended_at), is, tt);
+          follows = (tt, subst (λ (n : ℕ). list (n + 1) ≡ list n) ended_at (p.steady place.last (omega arith)), tt);
+          small = omega (arith, ap length adds, length-append (segment_text version.layout kept) (spelling r), length-end (place.last + 1), p.size, small);
+        }
+
+    pub end_count : place.last + 1 ≡ base + length (kept ++ end_record (place.last + 1) ∷ [])
+    end_count = omega (arith, ended_at, length-append kept (end_record (place.last + 1) ∷ []))
 
   pub start_does : (head : List ℕ) (last : ℕ) → header version.layout ≡ head → IsSteady list last → IsRecord (start_record (last + 1))
       → Does version list step.Start (last + 1) (head ++ spelling (start_record (last + 1))) (Ended last) (Going last (start_record (last + 1) ∷ []))
@@ -79,7 +85,7 @@ module _ (version : Version) (list : Shared) where
     pub logged_size : length (segment_text version.layout (kept ++ logged)) ≡ place.size + length bytes
     logged_size = omega (arith, ap length logged_adds, length-append (segment_text version.layout kept) bytes, p.size)
 
-    pub write_does : 1 ≤ length bytes → place.size + length bytes ≤ most_segment_read → Does version list step.Write place.first bytes (Going base kept) (Going base (kept ++ logged))
+    pub write_does : 1 ≤ length bytes → place.size + length bytes ≤ most_segment → Does version list step.Write place.first bytes (Going base kept) (Going base (kept ++ logged))
     write_does some small = Adds (record {
       begins = p.first;
       some = some_logged logged (omega (arith, some, ap length p.text));

@@ -8,11 +8,13 @@ use Rattle.nn_base.specs.DirSets.{Members, values, has, count_of}
 use Rattle.nn_base.proofs.DirSetLemmas.{same_members, equal_sets, other_sets, fewer, not_more}
 use Rattle.nn_host.specs.Moments.{State, moment}
 use Rattle.nn_journal.specs.Among.{EachCounted}
-use Rattle.nn_journal.specs.Places.{Place, Brings, BringsAhead, HasSettled, Went, most_buffer, most_unended, full_segment, place_of}
+use Rattle.nn_journal.specs.Places.{Place, Brings, BringsAhead, Went, most_buffer, most_unended, full_segment, place_of}
+use Rattle.nn_journal.specs.Finalizing.{Finalizes}
+use Rattle.nn_journal.specs.Rolling.{HasSettled}
 use Rattle.nn_journal.specs.declared.journal.JournalSet.{JournalSet}
 use Rattle.nn_journal.proofs.AllLemmas.{not_true}
 use Rattle.nn_journal.proofs.CarriedLemmas.{still_live}
-use Rattle.nn_journal.proofs.BringsLemmas.{brings_none, brings_both, brings_lower, went_refl, went_both}
+use Rattle.nn_journal.proofs.BringsLemmas.{brings_none, brings_both, brings_lower, brings_on, ahead_on, finalized_then, idle_base, going_base, went_refl, went_both}
 
 -- ---- two sets are compared
 
@@ -26,12 +28,35 @@ apart_sets a b same is apart = other_sets a b (sym is ∙ not_true same apart)
 pub one_set : (a b : Members) (same : Bool) → same ≡ pointwise beq (values a) (values b) → not same ≡ false → a ≡ b
 one_set a b same is one = equal_sets a b (sym is ∙ not_false same one)
 
+-- two that are true together are the same
+as_true : (x y : Bool) → (x ≡ true → y ≡ true) → (y ≡ true → x ≡ true) → x ≡ y
+as_true true true up down = refl
+as_true true false up down = sym (up refl)
+as_true false true up down = down refl
+as_true false false up down = refl
+
+-- none was dropped in the end, so none was by the step
+none_dropped : {live0 live1 live2 : Members} {a b c : State} → EachCounted live0 live0 live1 a b → EachCounted live1 live1 live2 b c → live2 ≡ live0 → live1 ≡ live0
+none_dropped {live0} {live1} {live2} counted later same = same_members live1 live0 (λ j. as_true (has live1 j) (has live0 j) (still_live counted j) (λ is. still_live later j (ap (λ (s : Members). has s j) same ∙ is)))
+
 -- ---- the rounds so far
 
 -- how low the dropped ones are: strictly below the last id where no round follows
 abbrev pub IsLow : Bool → ℕ → ℕ → Type 0
 IsLow true below last = below ≤ last
 IsLow false below last = below < last
+
+-- no round was made yet
+pub record HasBegun (p0 : Place) (live0 : Members) (p : Place) (live : Members) (a b : State) : Type 0 where
+  pub same_place : p ≡ p0
+  pub same_live : live ≡ live0
+  pub same_state : b ≡ a
+
+-- the first round has ended the segment that was in progress
+pub record HasEndedFirst (told : Type 0) (p0 : Place) (live0 : Members) (p : Place) (live : Members) (a b : State) : Type 0 where
+  pub later : p0.last < p.last
+  pub begins : p.going ≡ true → p.first ≡ p.last
+  pub ended : Finalizes told p0 live0 live a b
 
 pub record Rolling (told : Type 0) (holders : Members) (p0 : Place) (live0 : Members) (again : Bool) (p : Place) (live : Members) (a b : State) : Type 0 where
   pub went : Went told live0 live a b
@@ -40,6 +65,9 @@ pub record Rolling (told : Type 0) (holders : Members) (p0 : Place) (live0 : Mem
   pub ids : p.last + 2 * count_of live ≤ p0.last + 2 + 2 * count_of live0
   pub ids_again : again ≡ true → p.last + 2 * count_of live ≤ p0.last + 2 * count_of live0
   pub low : (below : ℕ) × IsLow again below p.last × Brings told p0 p below holders live0 live a b
+  pub ended : HasBegun p0 live0 p live a b ⊎ HasEndedFirst told p0 live0 p live a b
+  pub calls : told → live ≡ live0 → again ≡ false → moment b ≤ moment a + 10 * count_of live0
+  pub calls_again : told → live ≡ live0 → again ≡ true → moment b ≤ moment a
 
 rolling_begins : {told : Type 0} {holders live : Members} {p : Place} {a : State} → Rolling told holders p live true p live a a
 rolling_begins {told} {holders} {live} {p} {a} = record {
@@ -49,32 +77,60 @@ rolling_begins {told} {holders} {live} {p} {a} = record {
   ids = omega arith;
   ids_again = λ is. omega arith;
   low = (p.last, omega arith, brings_none p p.last);
+  ended = inl (record { same_place = refl; same_live = refl; same_state = refl });
+  calls = λ tells same is. absurd (let apart = is in cc);
+  calls_again = λ tells same is. omega arith;
 }
 
-rolling_on : {told : Type 0} {holders live0 live live2 : Members} {p0 p p2 : Place} {a b c : State} → Rolling told holders p0 live0 true p live a b → Brings told p p2 p2.last holders live live2 b c → Went told live live2 b c → p2.last ≡ p.last + 2
-    → (again : Bool) → (again ≡ true → live2 ≢ live) → (again ≡ false → live2 ≡ live) → Rolling told holders p0 live0 again p2 live2 a c
-rolling_on {live = live} {live2 = live2} {p2 = p2} before round went two true apart one =
-    let less : count_of live2 < count_of live = fewer live live2 (still_live went.counted) (apart refl) in
-    let low = before.ids_again refl in
-    record {
-      went = went_both before.went went;
-      since = omega (arith, before.since, two);
-      rose = λ is. omega (arith, before.since, two);
-      ids = omega (arith, less, low, two);
-      ids_again = λ is. omega (arith, less, low, two);
-      low = (p2.last, omega arith, brings_both p2.last (omega (arith, before.low.1, two)) (omega arith) before.low.2 round);
-    }
-rolling_on {live = live} {live2 = live2} {p2 = p2} before round went two false apart one =
-    let same : live2 ≡ live = one refl in
-    let low = before.ids_again refl in
-    record {
-      went = went_both before.went went;
-      since = omega (arith, before.since, two);
-      rose = λ is. omega (arith, before.since, two);
-      ids = omega (arith, ap count_of same, low, two);
-      ids_again = λ is. absurd (let apart = is in cc);
-      low = (before.low.0, omega (arith, before.low.1, two), brings_both before.low.0 (omega arith) (omega arith) before.low.2 (brings_lower before.low.0 same round));
-    }
+-- a round, with what it ends and how many calls it makes
+record Rounds (told : Type 0) (holders : Members) (p : Place) (live : Members) (p2 : Place) (live2 : Members) (b c : State) : Type 0 where
+  brings : Brings told p p2 p2.last holders live live2 b c
+  went : Went told live live2 b c
+  two : p2.last ≡ p.last + 2
+  begins : p2.going ≡ true → p2.first ≡ p2.last
+  ended : Finalizes told p live live2 b c
+  calls : told → moment c ≤ moment b + 10 * count_of live
+
+module _ {told : Type 0} {holders live0 live live2 : Members} {p0 p p2 : Place} {a b c : State} (before : Rolling told holders p0 live0 true p live a b) (round : Rounds told holders p live p2 live2 b c) (going : p.going ≡ p0.going) where
+  ended_on : HasBegun p0 live0 p live a b ⊎ HasEndedFirst told p0 live0 p live a b → Finalizes told p0 live0 live2 a c
+  ended_on (inl fresh) = subst (λ (x : Place). Finalizes told x live0 live2 a c) fresh.same_place (subst (λ (s : Members). Finalizes told p s live2 a c) fresh.same_live (subst (λ (x : State). Finalizes told p live live2 x c) fresh.same_state round.ended))
+  ended_on (inr first) = finalized_then first.ended before.low.2 (brings_on p2.last round.brings)
+      (λ version list stage m is order. let goes = going ∙ is in omega (arith, going_base version list p stage m goes, first.begins goes, first.later, order))
+
+  first_ended : HasEndedFirst told p0 live0 p2 live2 a c
+  first_ended = record { later = omega (arith, before.since, round.two); begins = round.begins; ended = ended_on before.ended }
+
+  rolling_on : (again : Bool) → (again ≡ true → live2 ≢ live) → (again ≡ false → live2 ≡ live) → Rolling told holders p0 live0 again p2 live2 a c
+  rolling_on true apart one =
+      let less : count_of live2 < count_of live = fewer live live2 (still_live round.went.counted) (apart refl) in
+      let low = before.ids_again refl in
+      let two = round.two in
+      record {
+        went = went_both before.went round.went;
+        since = omega (arith, before.since, two);
+        rose = λ is. omega (arith, before.since, two);
+        ids = omega (arith, less, low, two);
+        ids_again = λ is. omega (arith, less, low, two);
+        low = (p2.last, omega arith, brings_both p2.last (omega (arith, before.low.1, two)) (omega arith) before.low.2 round.brings);
+        ended = inr first_ended;
+        calls = λ tells same is. absurd (let apart = is in cc);
+        calls_again = λ tells same is. absurd (apart refl (same ∙ sym (none_dropped before.went.counted round.went.counted same)));
+      }
+  rolling_on false apart one =
+      let same : live2 ≡ live = one refl in
+      let low = before.ids_again refl in
+      let two = round.two in
+      record {
+        went = went_both before.went round.went;
+        since = omega (arith, before.since, two);
+        rose = λ is. omega (arith, before.since, two);
+        ids = omega (arith, ap count_of same, low, two);
+        ids_again = λ is. absurd (let apart = is in cc);
+        low = (before.low.0, omega (arith, before.low.1, two), brings_both before.low.0 (omega arith) (omega arith) before.low.2 (brings_lower before.low.0 same round.brings));
+        ended = inr first_ended;
+        calls = λ tells all is. omega (arith, round.calls tells, before.calls_again tells (sym same ∙ all) refl, ap count_of (sym same ∙ all));
+        calls_again = λ tells all is. absurd (let apart = is in cc);
+      }
 
 -- ---- a journal in its rounds
 
@@ -105,14 +161,16 @@ rounds_begin j below empty room order small = record {
 }
 
 module _ {told : Type 0} {j0 j : JournalSet} {again : Bool} {a b c : State} (j2 : JournalSet) (before : InRounds told j0 j again a b) (is : again ≡ true) (round : Brings told (place_of j) (place_of j2) j2.last j.holders j.live j2.live b c) (went : Went told j.live j2.live b c)
-    (place : (j2.going ≡ j.going) × (j2.last ≡ j.last + 2) × (j2.first ≤ j2.last) × (j2.size ≤ full_segment)) where
-  rolled : (next : Bool) → (next ≡ true → j2.live ≢ j.live) → (next ≡ false → j2.live ≡ j.live) → Rolling told j0.holders (place_of j0) j0.live next (place_of j2) j2.live a c
-  rolled next apart one = rolling_on (subst (λ (x : Bool). Rolling told j0.holders (place_of j0) j0.live x (place_of j) j.live a b) is before.rolling)
-      (subst (λ (h : Members). Brings told (place_of j) (place_of j2) j2.last h j.live j2.live b c) before.holders round) went place.1 next apart one
+    (place : (j2.going ≡ j.going) × (j2.last ≡ j.last + 2) × (j2.first ≤ j2.last) × (j2.size ≤ full_segment)) (begins : j2.going ≡ true → j2.first ≡ j2.last) (ended : Finalizes told (place_of j) j.live j2.live b c) (calls : told → moment c ≤ moment b + 10 * count_of j.live) where
+  one_round : Rounds told j0.holders (place_of j) j.live (place_of j2) j2.live b c
+  one_round = record { brings = subst (λ (h : Members). Brings told (place_of j) (place_of j2) j2.last h j.live j2.live b c) before.holders round; went = went; two = place.1; begins = begins; ended = ended; calls = calls }
 
-  pub rounds_on : (next : Bool) → (next ≡ true → j2.live ≢ j.live) → (next ≡ false → j2.live ≡ j.live) → (j2.going ≡ true → j2.first ≡ j2.last) → j2.buffer.items ≡ [] → most_buffer ≤ vec_capacity j2.buffer → (j2.holders ≡ j.holders) × (j2.header ≡ j.header)
+  rolled : (next : Bool) → (next ≡ true → j2.live ≢ j.live) → (next ≡ false → j2.live ≡ j.live) → Rolling told j0.holders (place_of j0) j0.live next (place_of j2) j2.live a c
+  rolled next apart one = rolling_on (subst (λ (x : Bool). Rolling told j0.holders (place_of j0) j0.live x (place_of j) j.live a b) is before.rolling) one_round before.going next apart one
+
+  pub rounds_on : (next : Bool) → (next ≡ true → j2.live ≢ j.live) → (next ≡ false → j2.live ≡ j.live) → j2.buffer.items ≡ [] → most_buffer ≤ vec_capacity j2.buffer → (j2.holders ≡ j.holders) × (j2.header ≡ j.header)
       → ((i : ℕ) → has j2.live i ≡ true → i < c.count) → InRounds told j0 j2 next a c
-  rounds_on next apart one begins empty room kept below = record {
+  rounds_on next apart one empty room kept below = record {
     rolling = rolled next apart one;
     empty = empty;
     room = room;
@@ -136,6 +194,17 @@ pub rounds_ahead : {told : Type 0} {holders live0 live : Members} {p0 p : Place}
 rounds_ahead {told} {holders} {live0} {live} {p0} {p} {again} {a} {b} is rolling version list from m start =
     let low = (subst (λ (x : Bool). Rolling told holders p0 live0 x p live a b) is rolling).low in (low.0, low.1, low.2 version list from m start)
 
+module _ {told : Type 0} {holders live0 live : Members} {p0 p : Place} {again : Bool} {a b : State} (is : again ≡ false) (rolling : Rolling told holders p0 live0 again p live a b) where
+  ended_by : HasBegun p0 live0 p live a b ⊎ HasEndedFirst told p0 live0 p live a b → Finalizes told p0 live0 live a b
+  ended_by (inl fresh) = absurd (omega (arith, rolling.rose is, ap (λ (x : Place). x.last) fresh.same_place))
+  ended_by (inr first) = first.ended
+
+  pub rounds_ended : Finalizes told p0 live0 live a b
+  rounds_ended = ended_by rolling.ended
+
+  pub rounds_calls : told → live ≡ live0 → moment b ≤ moment a + 10 * count_of live0
+  rounds_calls tells same = rolling.calls tells same is
+
 -- ---- what follows a step
 
 module _ {told : Type 0} {p1 p2 : Place} {holders live1 live2 : Members} {b c : State} where
@@ -149,22 +218,27 @@ module _ {told : Type 0} {p1 p2 : Place} {holders live1 live2 : Members} {b c : 
   settled_ids_more {live0} true counted settled = omega (arith, (settled.rolled refl).ids, not_more live0 live1 (still_live counted))
   settled_ids_more {live0} false counted settled = omega (arith, ap (λ (p : Place). p.last) (settled.stayed refl).0, ap count_of (settled.stayed refl).1, not_more live0 live1 (still_live counted))
 
--- two that are true together are the same
-as_true : (x y : Bool) → (x ≡ true → y ≡ true) → (y ≡ true → x ≡ true) → x ≡ y
-as_true true true up down = refl
-as_true true false up down = sym (up refl)
-as_true false true up down = down refl
-as_true false false up down = refl
-
--- none was dropped in the end, so none was by the step
-none_dropped : {live0 live1 live2 : Members} {a b c : State} → EachCounted live0 live0 live1 a b → EachCounted live1 live1 live2 b c → live2 ≡ live0 → live1 ≡ live0
-none_dropped {live0} {live1} {live2} counted later same = same_members live1 live0 (λ j. as_true (has live1 j) (has live0 j) (still_live counted j) (λ is. still_live later j (ap (λ (s : Members). has s j) same ∙ is)))
-
 -- nothing was done after a step that dropped none and left no full segment
-pub settled_calls : {told : Type 0} {p1 p2 : Place} {holders live0 live1 live2 : Members} {a b c : State} (again : Bool) (size : ℕ) → (again ≡ true → (live1 ≢ live0) ⊎ (full_segment < size)) → size ≤ full_segment → EachCounted live0 live0 live1 a b → EachCounted live1 live1 live2 b c → live2 ≡ live0
-    → HasSettled again told p1 p2 holders live1 live2 b c → moment c ≡ moment b
-settled_calls true size why small counted later same settled = absurd (⊎_elim (λ ne. ne (none_dropped counted later same)) (λ full. omega (arith, full, small)) (why refl))
-settled_calls false size why small counted later same settled = ap moment (settled.stayed refl).2
+pub settled_none : {told : Type 0} {p1 p2 : Place} {holders live0 live1 live2 : Members} {a b c : State} (again : Bool) (size : ℕ) → (again ≡ true → (live1 ≢ live0) ⊎ (full_segment < size)) → size ≤ full_segment → EachCounted live0 live0 live1 a b → EachCounted live1 live1 live2 b c → live2 ≡ live0
+    → HasSettled again told p1 p2 holders live1 live2 b c → (p2 ≡ p1) × (live2 ≡ live1) × (c ≡ b)
+settled_none true size why small counted later same settled = absurd (⊎_elim (λ ne. ne (none_dropped counted later same)) (λ full. omega (arith, full, small)) (why refl))
+settled_none false size why small counted later same settled = settled.stayed refl
+
+module _ {told : Type 0} {p1 p2 : Place} {holders live1 live2 : Members} {b c : State} where
+  pub settled_since : (again : Bool) → HasSettled again told p1 p2 holders live1 live2 b c → p1.last ≤ p2.last
+  settled_since true settled = omega (arith, (settled.rolled refl).rose)
+  settled_since false settled = omega (arith, ap (λ (p : Place). p.last) (settled.stayed refl).0)
+
+  pub settled_begins : (again : Bool) → HasSettled again told p1 p2 holders live1 live2 b c → p1.first ≡ p1.last → p2.going ≡ true → p2.first ≡ p2.last
+  settled_begins true settled begins going = (settled.rolled refl).begins going
+  settled_begins false settled begins going = ap (λ (p : Place). p.first) (settled.stayed refl).0 ∙ begins ∙ sym (ap (λ (p : Place). p.last) (settled.stayed refl).0)
+
+  -- the segment that was ended before stays so
+  pub settled_ended : {p0 : Place} {b1 : ℕ} {live0 : Members} {a : State} (again : Bool) → p1.going ≡ false → p1.last ≡ p0.last + 1 → Finalizes told p0 live0 live1 a b → Brings told p0 p1 b1 holders live0 live1 a b → HasSettled again told p1 p2 holders live1 live2 b c → Finalizes told p0 live0 live2 a c
+  settled_ended true idle next ended one settled = finalized_then ended one (ahead_on (settled.rolled refl).ahead) (λ version list stage m going order. omega (arith, idle_base version list p1 stage m idle, next, order))
+  settled_ended {p0} {b1} {live0} {a} false idle next ended one settled =
+      let same = settled.stayed refl in
+      subst (λ (s : Members). Finalizes told p0 live0 s a c) (sym same.1) (subst (λ (x : State). Finalizes told p0 live0 live1 a x) (sym same.2) ended)
 
 -- ---- one directory is dropped
 

@@ -1,6 +1,6 @@
 -- What a journal keeps in mind, when its live directories stand so, and what a call makes of both.
-use Rattle.std.specs.Prelude.{◌≡◌, ℕ, ◌+◌, ◌*◌, ◌<◌, ◌≤◌, ◌-◌, ◌^◌, ◌==◌, ◌&&◌, not, Bool, true, false, List, [], length, vec_len, vec_capacity}
-use Rattle.nn_base.specs.DirSets.{Members, has, count_of}
+use Rattle.std.specs.Prelude.{◌≡◌, ℕ, ◌+◌, ◌<◌, ◌≤◌, ◌-◌, ◌^◌, Bool, true, false, List, [], length, vec_len, vec_capacity}
+use Rattle.nn_base.specs.DirSets.{Members}
 use Rattle.nn_base.specs.Limits.{most_segment}
 use Rattle.nn_host.specs.Moments.{State}
 use Rattle.nn_host.specs.Runs.{Unspoken}
@@ -10,7 +10,7 @@ use Rattle.nn_record.specs.declared.transaction.Record.{Record}
 use Rattle.nn_segment.specs.Segment.{header, spelled, AreFrom}
 use Rattle.nn_segment_file.specs.Log.{Shared, Follows, segment_text}
 use Rattle.nn_segment_file.specs.Stages.{Stage, Ended, Going}
-use Rattle.nn_journal.specs.Among.{AllAt, EachCounted}
+use Rattle.nn_journal.specs.Among.{AllAt, EachCounted, LeavesAlone}
 use Rattle.nn_journal.specs.Carried.{Carried}
 use Rattle.nn_journal.specs.declared.journal.JournalSet.{JournalSet}
 
@@ -111,22 +111,8 @@ abbrev pub BringsLoggedAhead : Type 0 → List ℕ → Place → Place → Membe
 BringsLoggedAhead told bytes old_place place holders old_live live old new = (version : Version) (list : Shared) (base : ℕ) (kept logged : List Record) → IsInProgress version list base kept logged bytes old_place → (told → AllAt version list (Going base kept) old_live old)
     → (below : ℕ) × (below < place.last) × HasCome told version list (Going base kept) place below holders old_live live old new
 
--- Whatever the directories held: each is live where it was and no call on it failed, and nothing was said.
+-- Whatever the directories held: each is live where it was and no call on it failed; one that isn't live isn't touched, nor is one in which a call has failed; and nothing was said.
 pub record Went (told : Type 0) (old_live live : Members) (old new : State) : Type 0 where
   pub counted : EachCounted old_live old_live live old new
+  pub left : LeavesAlone told old_live old new
   pub quiet : Unspoken told old new
-
--- one directory is dropped without a call on it, and the others go on ahead of it
-abbrev pub DropsAhead : Type 0 → ℕ → Place → Place → Members → Members → Members → State → State → Type 0
-DropsAhead told i old_place place holders old_live live old new = (rest : Members) × ((j : ℕ) → has rest j ≡ (not (j == i) && has old_live j)) × BringsAhead told old_place place holders rest live old new × Went told rest live old new
-
--- the live ones went on ahead of those that were dropped, at most as often as one was dropped and once more
-pub record HasRolled (told : Type 0) (old_place place : Place) (holders old_live live : Members) (old new : State) : Type 0 where
-  pub rose : old_place.last < place.last
-  pub ids : place.last + 2 * count_of live ≤ old_place.last + 2 + 2 * count_of old_live
-  pub ahead : BringsAhead told old_place place holders old_live live old new
-
--- they did if they had to, and else nothing was done
-pub record HasSettled (again : Bool) (told : Type 0) (old_place place : Place) (holders old_live live : Members) (old new : State) : Type 0 where
-  pub rolled : again ≡ true → HasRolled told old_place place holders old_live live old new
-  pub stayed : again ≡ false → (place ≡ old_place) × (live ≡ old_live) × (new ≡ old)

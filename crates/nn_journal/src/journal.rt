@@ -1,12 +1,14 @@
 // The journal over all live directories: its calls.
-ghost use Rattle.std.specs.Prelude.{◌≡◌, ◌↔◌, ◌+◌, ◌*◌, ◌<◌, ◌≤◌, ◌++◌, ◌^◌, ◌==◌, ◌&&◌, ◌||◌, not, ℕ, true, false, [], OnOk, OnErr, IfOk, vec_len, vec_capacity};
+ghost use Rattle.std.specs.Prelude.{◌≡◌, ◌↔◌, ◌+◌, ◌*◌, ◌≢◌, ◌⊎◌, ◌<◌, ◌≤◌, ◌++◌, ◌^◌, ◌==◌, ◌&&◌, ◌||◌, not, ℕ, true, false, [], OnOk, OnErr, IfOk, vec_len, vec_capacity};
 ghost use Rattle.nn_base.specs.DirSets.{Members, has, count_of};
 ghost use Rattle.nn_base.specs.Limits.{most_record};
 ghost use Rattle.nn_host.specs.Moments.{moment};
 ghost use Rattle.nn_record.specs.Ops.{IsOp};
 ghost use Rattle.nn_record.specs.Spelling.{spelling, IsRecord};
 ghost use Rattle.nn_segment.specs.Segment.{header};
-ghost use Rattle.nn_journal.specs.Places.{BringsAhead, BringsLoggedAhead, DropsAhead, IsFit, Went, most_buffer, full_segment, place_of};
+ghost use Rattle.nn_journal.specs.Finalizing.{Finalizes, FinalizesLogged};
+ghost use Rattle.nn_journal.specs.Rolling.{DropsAhead};
+ghost use Rattle.nn_journal.specs.Places.{BringsAhead, BringsLoggedAhead, IsFit, Went, most_buffer, full_segment, place_of};
 
 use nn_base::limits::{MOST_RECORD, MOST_SEGMENT};
 use nn_base::{DirNo, DirSet, FirstTxid, NoMemory, Txid};
@@ -124,6 +126,10 @@ impl JournalSet {
         requires fit { IsFit self.old }
         requires ids { self.old.last + 64 < 2 ^ 63 }
         ensures brought { BringsAhead H.told (place_of self.old) (place_of self.new) self.old.holders self.old.live self.new.live (H.state host.old) (H.state host.new) }
+        ensures begins { self.new.first ≡ self.new.last }
+        ensures rose { self.old.last < self.new.last }
+        ensures next { self.new.live ≡ self.old.live → self.new.last ≡ self.old.last + 1 }
+        ensures calls { H.told → self.new.live ≡ self.old.live → moment (H.state host.new) ≤ moment (H.state host.old) + 7 * count_of self.old.live }
         ensures last { self.new.last + 2 * count_of self.new.live ≤ self.old.last + 2 + 2 * count_of self.old.live }
         ensures went { Went H.told self.old.live self.new.live (H.state host.old) (H.state host.new) }
         ensures left { OnErr result ((j : ℕ) → has self.new.live j ≡ false) }
@@ -145,6 +151,9 @@ impl JournalSet {
         requires fit { IsFit self.old }
         requires ids { self.old.last + 64 < 2 ^ 63 }
         ensures brought { BringsLoggedAhead H.told self.old.buffer.items (place_of self.old) (place_of self.new) self.old.holders self.old.live self.new.live (H.state host.old) (H.state host.new) }
+        ensures idle { self.old.buffer.items ≡ [] → (H.state host.new ≡ H.state host.old) × (place_of self.new ≡ place_of self.old) × (self.new.live ≡ self.old.live) }
+        ensures stays { self.new.live ≡ self.old.live → self.old.size + vec_len self.old.buffer ≤ full_segment → (self.new.last ≡ self.old.last) × (self.new.first ≡ self.old.first) × (self.new.size ≡ self.old.size + vec_len self.old.buffer) }
+        ensures ended { (self.new.live ≢ self.old.live) ⊎ (full_segment < self.old.size + vec_len self.old.buffer) → FinalizesLogged H.told self.old.buffer.items (place_of self.old) self.old.live self.new.live (H.state host.old) (H.state host.new) }
         ensures last { self.new.last + 2 * count_of self.new.live ≤ self.old.last + 2 + 2 * count_of self.old.live }
         ensures calls { H.told → self.new.live ≡ self.old.live → self.old.size + vec_len self.old.buffer ≤ full_segment → moment (H.state host.new) ≤ moment (H.state host.old) + 2 * count_of self.old.live }
         ensures went { Went H.told self.old.live self.new.live (H.state host.old) (H.state host.new) }
@@ -162,7 +171,8 @@ impl JournalSet {
         self.settle(host, again)
     }
 
-    /// Ends the segment in progress in each live directory. Where that drops one, another is begun and ended in the rest.
+    /// Ends the segment in progress in each live directory: its mark is appended and synced, and then it gets its last name.
+    /// Where that drops one, another is begun and ended in the rest.
     pub fn end_segment<H: Host>(&mut self, host: &mut H) -> Result<(), NoneLeft>
         requires below { (j : ℕ) → has self.old.live j ≡ true → j < (H.state host.old).count }
         requires going { self.old.going ≡ true }
@@ -170,6 +180,10 @@ impl JournalSet {
         requires fit { IsFit self.old }
         requires ids { self.old.last + 64 < 2 ^ 63 }
         ensures brought { BringsAhead H.told (place_of self.old) (place_of self.new) self.old.holders self.old.live self.new.live (H.state host.old) (H.state host.new) }
+        ensures ended { Finalizes H.told (place_of self.old) self.old.live self.new.live (H.state host.old) (H.state host.new) }
+        ensures rose { self.old.last < self.new.last }
+        ensures next { self.new.live ≡ self.old.live → self.new.last ≡ self.old.last + 1 }
+        ensures calls { H.told → self.new.live ≡ self.old.live → moment (H.state host.new) ≤ moment (H.state host.old) + 3 * count_of self.old.live }
         ensures last { self.new.last + 2 * count_of self.new.live ≤ self.old.last + 2 + 2 * count_of self.old.live }
         ensures went { Went H.told self.old.live self.new.live (H.state host.old) (H.state host.new) }
         ensures left { OnErr result ((j : ℕ) → has self.new.live j ≡ false) }
@@ -191,6 +205,8 @@ impl JournalSet {
         requires fit { IsFit self.old }
         requires ids { self.old.last + 64 < 2 ^ 63 }
         ensures brought { BringsAhead H.told (place_of self.old) (place_of self.new) self.old.holders self.old.live self.new.live (H.state host.old) (H.state host.new) }
+        ensures ended { Finalizes H.told (place_of self.old) self.old.live self.new.live (H.state host.old) (H.state host.new) }
+        ensures calls { H.told → self.new.live ≡ self.old.live → moment (H.state host.new) ≤ moment (H.state host.old) + 10 * count_of self.old.live }
         ensures begins { self.new.first ≡ self.new.last }
         ensures rose { self.old.last < self.new.last }
         ensures last { self.new.last + 2 * count_of self.new.live ≤ self.old.last + 2 + 2 * count_of self.old.live }

@@ -5,6 +5,7 @@
 
 mod among;
 mod journal;
+pub mod laws;
 mod rounds;
 
 pub use journal::{JournalSet, NoneLeft};

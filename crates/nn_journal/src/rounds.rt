@@ -3,7 +3,10 @@ ghost use Rattle.std.specs.Prelude.{◌≡◌, ◌≢◌, ◌⊎◌, ◌+◌, �
 ghost use Rattle.nn_base.specs.DirSets.{has, count_of};
 ghost use Rattle.nn_record.specs.Spelling.{spelling, IsRecord};
 ghost use Rattle.nn_journal.specs.Among.{SteppedAll};
-ghost use Rattle.nn_journal.specs.Places.{Brings, BringsAhead, HasSettled, Went, end_record, start_record, most_buffer, most_unended, full_segment, place_of};
+ghost use Rattle.nn_host.specs.Moments.{moment};
+ghost use Rattle.nn_journal.specs.Finalizing.{Finalizes};
+ghost use Rattle.nn_journal.specs.Rolling.{HasSettled};
+ghost use Rattle.nn_journal.specs.Places.{Brings, BringsAhead, Went, end_record, start_record, most_buffer, most_unended, full_segment, place_of};
 ghost use Rattle.nn_segment_file.specs.declared.step.Step.TheVariants.{Start, Write, End};
 
 use crate::among::step_all;
@@ -124,6 +127,8 @@ impl JournalSet {
         requires order { self.old.going ≡ true → self.old.first ≤ self.old.last }
         requires small { self.old.size ≤ most_unended }
         ensures brings { Brings H.told (place_of self.old) (place_of self.new) self.new.last self.old.holders self.old.live self.new.live (H.state host.old) (H.state host.new) }
+        ensures ended { Finalizes H.told (place_of self.old) self.old.live self.new.live (H.state host.old) (H.state host.new) }
+        ensures calls { H.told → moment (H.state host.new) ≤ moment (H.state host.old) + 10 * count_of self.old.live }
         ensures went { Went H.told self.old.live self.new.live (H.state host.old) (H.state host.new) }
         ensures place { (self.new.going ≡ self.old.going) × (self.new.last ≡ self.old.last + 2) × (self.new.first ≤ self.new.last) × (self.new.size ≤ full_segment) }
         ensures begins { self.new.going ≡ true → self.new.first ≡ self.new.last }
@@ -151,6 +156,8 @@ impl JournalSet {
         requires small { self.old.size ≤ most_unended }
         ensures rose { self.old.last < self.new.last }
         ensures brought { BringsAhead H.told (place_of self.old) (place_of self.new) self.old.holders self.old.live self.new.live (H.state host.old) (H.state host.new) }
+        ensures ended { Finalizes H.told (place_of self.old) self.old.live self.new.live (H.state host.old) (H.state host.new) }
+        ensures calls { H.told → self.new.live ≡ self.old.live → moment (H.state host.new) ≤ moment (H.state host.old) + 10 * count_of self.old.live }
         ensures ids { self.new.last + 2 * count_of self.new.live ≤ self.old.last + 2 + 2 * count_of self.old.live }
         ensures went { Went H.told self.old.live self.new.live (H.state host.old) (H.state host.new) }
         ensures left { OnErr result ((j : ℕ) → has self.new.live j ≡ false) }

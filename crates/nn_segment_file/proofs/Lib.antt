@@ -5,7 +5,6 @@ pub mod StepLemmas
 pub mod SeenLemmas
 pub mod BesideLemmas
 pub mod CallLemmas
-pub mod MomentLemmas
 pub mod StageLemmas
 pub mod BeginLemmas
 pub mod ListLemmas

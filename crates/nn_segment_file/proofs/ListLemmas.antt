@@ -1,5 +1,5 @@
 -- The shared list is extended: what it says up to an id stays.
-use Rattle.std.proofs.Common.{◌≡◌, ℕ, ◌+◌, ◌≤◌, List, [], ◌∷◌, ◌++◌, length, sym, ◌∙◌, ap, subst, arith}
+use Rattle.std.proofs.Common.{◌≡◌, ℕ, ◌+◌, ◌≤◌, List, [], ◌∷◌, ◌++◌, length, sym, ◌∙◌, ap, subst, arith, append-nil}
 use Rattle.nn_base.specs.declared.file_name.FileName.{FileName}
 use Rattle.nn_host.specs.Disk.{Disk}
 use Rattle.nn_marks.specs.declared.version.Version.{Version}
@@ -9,11 +9,8 @@ use Rattle.nn_ops.specs.Step.{Fits}
 use Rattle.nn_ops.specs.Effects.{effect}
 use Rattle.nn_chain.specs.Folder.{Folder}
 use Rattle.nn_chain.specs.Chain.{IsChain}
-use Rattle.nn_segment_file.specs.Log.{Shared, Follows, EndsAt, Logs, Rests, Writes}
-
--- two lists are the same up to this id
-abbrev pub AgreeTo : Shared → Shared → ℕ → Type 0
-AgreeTo list other last = (n : ℕ) → n ≤ last → other n ≡ list n
+use Rattle.nn_segment_file.specs.Log.{Shared, AgreeTo, Follows, EndsAt, Logs, Rests, Writes}
+use Rattle.nn_segment_file.specs.Stages.{Stage, Ended, Going, StandsAt, last_of}
 
 ends_relist : (version : Version) (list other : Shared) (last : ℕ) (folder : Folder) → other last ≡ list last → EndsAt version list last folder → EndsAt version other last folder
 ends_relist version list other last folder same p = record {
@@ -30,7 +27,7 @@ logs_relist version list other lo hi d agree logs = record {
       record { last = at.last; least = at.least; most = at.most; ends = ends_relist version list other at.last _ (agree at.last at.most) at.ends };
 }
 
-follows_relist : (list other : Shared) (last : ℕ) (rs : List Record) → AgreeTo list other (last + length rs) → Follows list last rs → Follows other last rs
+pub follows_relist : (list other : Shared) (last : ℕ) (rs : List Record) → AgreeTo list other (last + length rs) → Follows list last rs → Follows other last rs
 follows_relist list other last [] agree follows = tt
 follows_relist list other last (r ∷ rs) agree follows =
     let here : other last ≡ list last = agree last (omega arith) in
@@ -55,4 +52,11 @@ writes_relist version list other base kept more name d agree w = record {
   small = w.small;
   ids = w.ids;
   follows = follows_relist list other base (kept ++ more) agree w.follows;
+}
+
+pub stands_relist : (version : Version) (list other : Shared) (stage : Stage) (d : Disk) → AgreeTo list other (last_of stage) → StandsAt version list stage d → StandsAt version other stage d
+stands_relist version list other (Ended last) d agree at = rests_relist version list other last d agree at
+stands_relist version list other (Going base kept) d agree at = record {
+  writes = writes_relist version list other base kept [] _ d (λ n le. agree n (omega (arith, le, ap length (append-nil kept)))) at.writes;
+  seen = at.seen;
 }

@@ -2,7 +2,7 @@
 use Rattle.std.proofs.Common.{◌≡◌, ◌≢◌, ℕ, ◌+◌, ◌<◌, ◌≤◌, ◌^◌, ℤ, List, [], ◌∷◌, ◌++◌, length, Option, Some, None, refl, sym, ◌∙◌, ap, subst, arith, append_assoc, append-nil}
 use Rattle.std.specs.Prelude.{if◌then◌else◌, is_some}
 use Rattle.std.proofs.lemmas.Option.{same_Some}
-use Rattle.nn_base.specs.Limits.{most_segment_read}
+use Rattle.nn_base.specs.Limits.{most_segment}
 use Rattle.nn_base.specs.declared.sub.Sub.TheVariants.{Current}
 use Rattle.nn_base.specs.declared.file_name.FileName.{FileName}
 use Rattle.nn_base.specs.declared.file_name.FileName.TheVariants.{Edits, InProgress}
@@ -44,7 +44,7 @@ module _ (version : Version) (list : Shared) (last : ℕ) where
   -- another file under the name
   module _ (kept more : List Record) (name : FileName) (d : Disk) (writes : Writes version list last kept more name d) where
     rewritten : (kept2 more2 : List Record) (f : File) → IsSegment version.layout kept2 more2 f → ((id : ℕ) → id ≤ last + length (kept2 ++ more2) → IsWithin name id)
-        → length (segment_text version.layout (kept2 ++ more2)) ≤ most_segment_read → AreFrom (last + 1) (kept2 ++ more2) → Follows list last (kept2 ++ more2)
+        → length (segment_text version.layout (kept2 ++ more2)) ≤ most_segment → AreFrom (last + 1) (kept2 ++ more2) → Follows list last (kept2 ++ more2)
         → Writes version list last kept2 more2 name (with_file d Current name (Some f))
     rewritten kept2 more2 f is within small ids follows = record {
       rests = subst (Rests version list last) (sym (again d Current name (Some f) None)) writes.rests;
@@ -84,7 +84,7 @@ module _ (version : Version) (list : Shared) (last : ℕ) where
     -- ---- records go behind it
 
     pub appended : (r : Reads) (part : Disk) (new : List Record) (bytes : List ℕ) → Adds version.layout (kept ++ more) new bytes → AreFrom (last + 1 + length (kept ++ more)) new → Follows list (last + length (kept ++ more)) new
-        → length (segment_text version.layout ((kept ++ more) ++ new)) ≤ most_segment_read → Makes (Append Current (InProgress (last + 1)) bytes) r d part → Writes version list last kept (more ++ new) (InProgress (last + 1)) part
+        → length (segment_text version.layout ((kept ++ more) ++ new)) ≤ most_segment → Makes (Append Current (InProgress (last + 1)) bytes) r d part → Writes version list last kept (more ++ new) (InProgress (last + 1)) part
     appended r part new bytes adds ids follows small makes =
         let name = InProgress (last + 1) in
         let f : File = writes.file in
@@ -93,7 +93,7 @@ module _ (version : Version) (list : Shared) (last : ℕ) where
         let whole : f.synced ++ (f.pending ++ bytes) ≡ segment_text version.layout (kept ++ (more ++ new)) = sym (append_assoc f.synced f.pending bytes) ∙ ap (λ (t : List ℕ). t ++ bytes) writes.segment.whole ∙ sym adds ∙ ap (segment_text version.layout) (sym all) in
         subst (Writes version list last kept (more ++ new) name) (sym is)
         (rewritten kept more name d writes kept (more ++ new) (add_pending f bytes) (record { synced = writes.segment.synced; whole = whole }) (λ id le. tt)
-        (subst (λ (rs : List Record). length (segment_text version.layout rs) ≤ most_segment_read) (sym all) small)
+        (subst (λ (rs : List Record). length (segment_text version.layout rs) ≤ most_segment) (sym all) small)
         (subst (AreFrom (last + 1)) (sym all) (from_joined (last + 1) (kept ++ more) new writes.ids ids))
         (subst (Follows list last) (sym all) (follows_joined list last (kept ++ more) new writes.follows follows)))
 
@@ -108,7 +108,7 @@ module _ (version : Version) (list : Shared) (last : ℕ) where
         let is : part ≡ with_file d Current name (Some (record { synced = text; pending = [] })) = makes ∙ ap (λ (x : Option (List ℕ)). with_file d Current name (certain x)) reads in
         subst (Writes version list last (kept ++ more) [] name) (sym is)
         (rewritten kept more name d writes (kept ++ more) [] (record { synced = text; pending = [] }) (record { synced = refl; whole = append-nil text ∙ ap (segment_text version.layout) (sym all) }) (λ id le. tt)
-        (subst (λ (rs : List Record). length (segment_text version.layout rs) ≤ most_segment_read) (sym all) writes.small)
+        (subst (λ (rs : List Record). length (segment_text version.layout rs) ≤ most_segment) (sym all) writes.small)
         (subst (AreFrom (last + 1)) (sym all) writes.ids)
         (subst (Follows list last) (sym all) writes.follows))
 
@@ -154,7 +154,7 @@ module _ (version : Version) (list : Shared) (last : ℕ) where
 
 -- ---- which bytes go behind a segment
 
-spelled-append : (rs qs : List Record) → spelled (rs ++ qs) ≡ spelled rs ++ spelled qs
+pub spelled-append : (rs qs : List Record) → spelled (rs ++ qs) ≡ spelled rs ++ spelled qs
 unfolding spelled
 spelled-append rs qs = flat_map-append spelling rs qs
 

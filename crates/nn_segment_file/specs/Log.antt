@@ -1,12 +1,12 @@
 -- The log of one directory: what each stop leaves of it, and the segment whose records are on its disk.
-use Rattle.std.specs.Prelude.{◌≡◌, ◌≢◌, ℕ, ℤ, ◌+◌, ◌<◌, ◌≤◌, List, [], ◌∷◌, ◌++◌, length, true, Some, None}
+use Rattle.std.specs.Prelude.{◌≡◌, ◌≢◌, ◌⊎◌, ℕ, ℤ, ◌+◌, ◌<◌, ◌≤◌, List, [], ◌∷◌, ◌++◌, length, true, Some, None}
 use Rattle.nn_base.specs.declared.sub.Sub.{Sub}
 use Rattle.nn_base.specs.declared.sub.Sub.TheVariants.{Current}
 use Rattle.nn_base.specs.declared.file_name.FileName.{FileName}
-use Rattle.nn_base.specs.declared.file_name.FileName.TheVariants.{Seen, SeenTmp}
+use Rattle.nn_base.specs.declared.file_name.FileName.TheVariants.{Seen, SeenTmp, Edits, InProgress}
 use Rattle.nn_base.specs.FileText.{IsInRange}
-use Rattle.nn_base.specs.Limits.{most_segment_read}
-use Rattle.nn_host.specs.Disk.{Disk, File, Reads, Leaves, with_file}
+use Rattle.nn_base.specs.Limits.{most_segment}
+use Rattle.nn_host.specs.Disk.{Disk, File, Reads, Leaves, certain, with_file}
 use Rattle.nn_marks.specs.declared.version.Version.{Version}
 use Rattle.nn_tree.specs.Namespace.{Namespace}
 use Rattle.nn_record.specs.declared.transaction.Record.{Record}
@@ -23,6 +23,10 @@ use Rattle.nn_chain.specs.Fair.{IsFair}
 -- the namespace after each id
 abbrev pub Shared : Type 0
 Shared = ℕ → Namespace
+
+-- the second list says what the first does up to this id
+abbrev pub AgreeTo : Shared → Shared → ℕ → Type 0
+AgreeTo list longer last = (n : ℕ) → n ≤ last → longer n ≡ list n
 
 -- these records go on from this id: each fits the namespace before it, and leads to the next
 abbrev pub Follows : Shared → ℕ → List Record → Type 0
@@ -86,22 +90,32 @@ pub record Writes (version : Version) (list : Shared) (last : ℕ) (kept more : 
   pub file : File
   pub stands : d.file Current name ≡ Some file
   pub segment : IsSegment version.layout kept more file
-  pub small : length (segment_text version.layout (kept ++ more)) ≤ most_segment_read
+  pub small : length (segment_text version.layout (kept ++ more)) ≤ most_segment
   pub ids : AreFrom (last + 1) (kept ++ more)
   pub follows : Follows list last (kept ++ more)
 
+-- ---- a segment that was ended
+
+-- These records after `last` are a segment under its last name, that to `end`; without it the disk rests at `last`, so that none is in progress behind it.
+pub record IsEnded (version : Version) (list : Shared) (last : ℕ) (kept : List Record) (end : ℕ) (d : Disk) : Type 0 where
+  pub some : 1 ≤ length kept
+  pub ends : end ≡ last + length kept
+  pub writes : Writes version list last kept [] (Edits (last + 1, end)) d
+
+-- The finalized segment from `first` to `end` has these records, all of it synced, and none is in progress under its first id.
+pub record IsFinalized (layout : ℤ) (first end : ℕ) (records : List Record) (d : Disk) : Type 0 where
+  pub whole : d.file Current (Edits (first, end)) ≡ certain (Some (segment_text layout records))
+  pub gone : d.file Current (InProgress first) ≡ None
+
 -- ---- what isn't touched
 
--- all but the segments is as it was
-pub record BesideSegments (old d : Disk) : Type 0 where
+-- all but the files in `current` of which this is said is as it was
+pub record Beside (touched : FileName → Type 0) (old d : Disk) : Type 0 where
   pub root : d.root ≡ old.root
   pub subs : (s : Sub) → d.has s ≡ old.has s
   pub other_subs : (s : Sub) (n : FileName) → s ≢ Current → d.file s n ≡ old.file s n
-  pub other_files : (n : FileName) → first_in n ≡ None → d.file Current n ≡ old.file Current n
+  pub other_files : (n : FileName) → ¬ touched n → d.file Current n ≡ old.file Current n
 
--- all but the segments, seen_txid and its .tmp is as it was
-pub record BesideLog (old d : Disk) : Type 0 where
-  pub root : d.root ≡ old.root
-  pub subs : (s : Sub) → d.has s ≡ old.has s
-  pub other_subs : (s : Sub) (n : FileName) → s ≢ Current → d.file s n ≡ old.file s n
-  pub other_files : (n : FileName) → first_in n ≡ None → n ≢ Seen → n ≢ SeenTmp → d.file Current n ≡ old.file Current n
+-- seen_txid, its .tmp, and each segment file that begins after this id
+abbrev pub IsOfLog : ℕ → FileName → Type 0
+IsOfLog base n = (n ≡ Seen) ⊎ (n ≡ SeenTmp) ⊎ ((first : ℕ) × (first_in n ≡ Some first) × (base < first))

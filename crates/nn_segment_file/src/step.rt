@@ -3,8 +3,9 @@ ghost use Rattle.std.specs.Prelude.{◌≡◌, ◌+◌, ◌<◌, ◌≤◌, OnOk
 ghost use Rattle.nn_host.specs.Moments.{disk_at, moment};
 ghost use Rattle.nn_host.specs.Calls.{IsCounted};
 ghost use Rattle.nn_host.specs.Runs.{OnlyAt};
-ghost use Rattle.nn_segment_file.specs.Log.{BesideLog};
-ghost use Rattle.nn_segment_file.specs.Stages.{StepsAtAnyMoment, HasStepped};
+ghost use Rattle.nn_small.specs.Failure.{EndsByFailure};
+ghost use Rattle.nn_segment_file.specs.Log.{Beside};
+ghost use Rattle.nn_segment_file.specs.Stages.{StepsAtAnyMoment, StepsInTurn, HasStepped, Touched, calls_of};
 
 use crate::segment::{begin_segment, end_segment, write_records};
 use nn_base::{DirNo, FirstTxid, Txid};
@@ -35,8 +36,10 @@ pub fn step_at<H: Host>(
     requires order { (last : _) → step.now ≡ Step.End last → first.now ≤ last }
     ensures ok { H.told → HasStepped i.0 step.now first.now bytes.now (H.state host.old) (H.state host.new) result }
     ensures any_moment { StepsAtAnyMoment H.told i.0 step.now first.now bytes.now (H.state host.old) (H.state host.new) }
-    ensures beside { OnlyAt H.told i.0 (H.state host.old) (H.state host.new) (BesideLog (disk_at (H.state host.old) i.0)) }
-    ensures calls { H.told → step.now ≡ Step.Write → moment (H.state host.new) ≤ moment (H.state host.old) + 2 }
+    ensures in_turn { StepsInTurn H.told i.0 step.now first.now bytes.now (H.state host.old) (H.state host.new) }
+    ensures beside { OnlyAt H.told i.0 (H.state host.old) (H.state host.new) (Beside (Touched step.now first.now) (disk_at (H.state host.old) i.0)) }
+    ensures still { EndsByFailure H.told i.0 (H.state host.old) (H.state host.new) }
+    ensures calls { H.told → moment (H.state host.new) ≤ moment (H.state host.old) + calls_of step.now }
     ensures cause { IsCounted i.0 (H.state host.old) (H.state host.new) result }
 {
     match *step {

@@ -16,7 +16,8 @@ use Rattle.nn_state.specs.Typed.{IsIn}
 use Rattle.nn_tree.specs.Namespace.{Namespace}
 use Rattle.nn_chain.specs.Folder.{Folder, folder_at}
 use Rattle.nn_chain.proofs.SameLemmas.{none_after_bare}
-use Rattle.nn_segment_file.specs.Log.{BesideLog, EndsWithin}
+use Rattle.nn_segment_file.specs.Log.{Beside, IsOfLog, EndsWithin}
+use Rattle.nn_segment_file.proofs.BesideLemmas.{not_log}
 use Rattle.nn_remake.proofs.LeftLemmas.{seven_left}
 use Rattle.nn_remake.proofs.TableLemmas.{seven_by}
 use Rattle.nn_pick.specs.Dirs.{ServesPrevious}
@@ -25,7 +26,7 @@ use Rattle.nn_steps.specs.Steps.{LoggingEnds}
 use Rattle.nn_steps.proofs.BesideLemmas.{LeftBeside, left_beside}
 use Rattle.nn_steps.proofs.NormalLemmas.{current_serves, is_previous}
 
-module _ (old d : Disk) (beside : BesideLog old d) (c : Reads) (leaves : Leaves d c) where
+module _ (base : ℕ) (old d : Disk) (beside : Beside (IsOfLog base) old d) (c : Reads) (leaves : Leaves d c) where
   pub elsewhere : (s : Sub) (n : FileName) → (d.file s n ≡ old.file s n) ⊎ (s ≡ Current)
   elsewhere s n = ⊎_elim (λ here. inr here.1) (λ other. inl (beside.other_subs s n other.1)) (sub_tells s Current)
 
@@ -34,7 +35,7 @@ module _ (old d : Disk) (beside : BesideLog old d) (c : Reads) (leaves : Leaves 
   log_left = left_beside (λ s n. s ≡ Current) old d beside.root beside.subs elsewhere c leaves
 
   same_seven : seven_of c ≡ seven_of old
-  same_seven = seven_left d c leaves ∙ seven_by old d beside.root beside.subs (ap (λ (o : Option File). is_some o) (beside.other_files name.Version refl (λ e. cc) (λ e. cc)))
+  same_seven = seven_left d c leaves ∙ seven_by old d beside.root beside.subs (ap (λ (o : Option File). is_some o) (beside.other_files name.Version (not_log name.Version refl (λ e. cc) (λ e. cc))))
 
   log_normal : IsIn Normal old → IsIn Normal c
   log_normal normal = ap table_of same_seven ∙ normal
@@ -73,9 +74,9 @@ module _ (old d : Disk) (beside : BesideLog old d) (c : Reads) (leaves : Leaves 
     }
 
 pub logging_ends : LoggingEnds
-logging_ends version has what list from to lo hi old d normal ends low is c leaves fair =
-    let it = log_left old d is.beside c leaves in
+logging_ends version has what list from to base lo hi old d normal ends low is c leaves fair =
+    let it = log_left base old d is.beside c leaves in
     let was = ends it.before it.left (it.fair fair) in
     let now = is.logs.left c leaves fair in
     let most = was.2 in
-    (now.last, now.least, now.most, logged_ends old d is.beside c leaves version has what list was.0 lo hi normal was.3 (omega (arith, most, low)) now)
+    (now.last, now.least, now.most, logged_ends base old d is.beside c leaves version has what list was.0 lo hi normal was.3 (omega (arith, most, low)) now)

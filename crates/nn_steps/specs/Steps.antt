@@ -146,5 +146,5 @@ TidyingEnds = (version : Version) (has : Bool) (what : Option Namespace) (list :
 
 -- At each moment at which records go behind a segment, or one is begun or ended, it ends at one of the ids that are in flight, where it ended no later before.
 abbrev pub LoggingEnds : Type 0
-LoggingEnds = (version : Version) (has : Bool) (what : Option Namespace) (list : ℕ → Namespace) (from to lo hi : ℕ) (old d : Disk) → IsIn Normal old → EndsBetween version has what list from to old → to ≤ lo
-    → Logged version list lo hi old d → EndsBetween version has what list lo hi d
+LoggingEnds = (version : Version) (has : Bool) (what : Option Namespace) (list : ℕ → Namespace) (from to base lo hi : ℕ) (old d : Disk) → IsIn Normal old → EndsBetween version has what list from to old → to ≤ lo
+    → Logged version list base lo hi old d → EndsBetween version has what list lo hi d

@@ -12,8 +12,8 @@ step_at-requires-clause-below g c = omega (arith, c.requires.below c.loop-i.i (s
 pub loop-i-preserved : goal.loop-i-preserved
 loop-i-preserved g c = elim c.if-has.branch [
   | then-has+in-Ok w ↦ walked_as w.live-is (ap g.H.Host.state w.host-is)
-      (walk_on c.loop-i.invariant (sym c.has.ensures ∙ w.if-has.true) w.in-Ok.ensures.beside w.in-Ok.ensures.any_moment w.in-Ok.ensures.calls w.in-Ok.ensures.cause.ok w.in-Ok.ensures.ok)
+      (walk_on c.loop-i.invariant (sym c.has.ensures ∙ w.if-has.true) w.in-Ok.ensures.beside w.in-Ok.ensures.any_moment w.in-Ok.ensures.still w.in-Ok.ensures.calls w.in-Ok.ensures.cause.ok w.in-Ok.ensures.ok)
   | then-has+in-Err w ↦ walked_as w.live-is (ap g.H.Host.state w.host-is)
-      (walk_drops c.loop-i.invariant (sym c.has.ensures ∙ w.if-has.true) w.in-Err.ensures.beside w.in-Err.ensures.any_moment w.in-Err.ensures.calls w.without.ensures w.in-Err.ensures.cause.err)
+      (walk_drops c.loop-i.invariant (sym c.has.ensures ∙ w.if-has.true) w.in-Err.ensures.beside w.in-Err.ensures.any_moment w.in-Err.ensures.still w.in-Err.ensures.calls w.without.ensures w.in-Err.ensures.cause.err)
   | else-has w ↦ walked_as w.live-is (ap g.H.Host.state w.host-is) (walk_past c.loop-i.invariant (sym c.has.ensures ∙ w.if-has.false))
 ]

@@ -4,7 +4,14 @@ use Rattle.nn_journal.proofs.journal.JournalSet.settle.Goals as goal
 
 pub returns-then-again-clause-settled : goal.returns-then-again-clause-settled
 returns-then-again-clause-settled g c = record {
-  rolled = λ is. record { rose = c.rounds.ensures.rose; ids = c.rounds.ensures.ids; ahead = c.rounds.ensures.brought };
+  rolled = λ is. record {
+    rose = c.rounds.ensures.rose;
+    begins = c.rounds.ensures.begins;
+    ids = c.rounds.ensures.ids;
+    ahead = c.rounds.ensures.brought;
+    ended = c.rounds.ensures.ended;
+    calls = c.rounds.ensures.calls;
+  };
   stayed = λ is. absurd (let apart = sym c.if-again.true ∙ is in cc);
 }
 
