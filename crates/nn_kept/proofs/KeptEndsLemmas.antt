@@ -1,5 +1,5 @@
 -- When a directory that stands is kept, and what stops leave of its disk.
-use Rattle.std.proofs.Common.{true, ◌≡◌, inl, inr, ℕ, ◌-◌, ◌<◌, ◌≤◌, ◌^◌, true≢false, refl, sym, ◌∙◌, ap, subst, arith}
+use Rattle.std.proofs.Common.{true, ◌≡◌, inl, inr, ℕ, ◌-◌, ◌<◌, ◌≤◌, true≢false, refl, sym, ◌∙◌, ap, subst, arith}
 use Rattle.std.specs.Prelude.{Option, is_some, Contains, Bool}
 use Rattle.std.proofs.lemmas.Option.{none-some}
 use Rattle.nn_host.specs.Disk.{Disk, Reads, Leaves}
@@ -9,7 +9,8 @@ use Rattle.nn_chain.specs.Folder.{Folder}
 use Rattle.nn_chain.specs.Chain.{Reached, IsChain}
 use Rattle.nn_chain.proofs.ChainLemmas.{one_chain}
 use Rattle.nn_pick.specs.Dirs.{ServesPrevious}
-use Rattle.nn_kept.specs.Kept.{IsKept, IsHolderOfRun, Rank, end_at, IsBelow, IsAtMost, Shared, IsOfWindow, book_at, IsOurs, Stands, IsBelowFloor, IsReached, HoldsSaved, IsKeptUnder, IsOfRun}
+use Rattle.nn_pick.specs.Refusing.{spent_from}
+use Rattle.nn_kept.specs.Kept.{IsKept, IsLedOfRun, Rank, end_at, IsBelow, IsAtMost, Shared, IsOfWindow, book_at, IsOurs, Stands, IsBelowFloor, IsReached, HoldsSaved, IsKeptUnder, IsOfRun}
 use Rattle.nn_kept.specs.Laws.{IsKeptDisk}
 use Rattle.nn_kept.specs.Ends.{EndsAt, HasRoom, book_of, EndsBetween, BetweenIsKept, BetweenIsOutranked, LeftBehindIsKept, HeldImageEnds, HoldsThere, OfRunEnds}
 use Rattle.nn_chain.specs.Fair.{IsFair}
@@ -32,7 +33,7 @@ module _ (shared : Shared) (c : Reads) (v : Version) (has : Bool) (n : ℕ) (is 
   unfolding rank
   same_book = ap (λ (there : Bool). book_of there (shared.saved v.ctime) (shared.ns v.ctime n)) (sym is.previous)
 
-  module _ (ours : IsOurs shared v) (room : n < 2 ^ 62) (inside : IsOfWindow shared.window (book_at shared c rank)) (led : IsBelow shared.lead rank → Contains shared.window (book_at shared c rank)) where
+  module _ (ours : IsOurs shared v) (room : n < spent_from) (inside : IsOfWindow shared.window (book_at shared c rank)) (led : IsBelow shared.lead rank → Contains shared.window (book_at shared c rank)) where
     stands : Stands shared c v is.folder rank
     unfolding rank
     stands = record { ctime = refl; chain = is.chain; bare = is.bare; room = room; inside = inside; led = led }
@@ -57,7 +58,7 @@ module _ (shared : Shared) (c : Reads) (v : Version) (has : Bool) (n : ℕ) (is 
     ends_of_run : IsAtMost shared.floor rank → IsOfRun shared c rank
     ends_of_run high = record { version = v; folder = is.folder; under = is.under; stands = stands; high = high }
 
-    ends_holder : IsAtMost shared.floor rank → IsAtMost shared.lead rank → Contains shared.window (book_at shared c rank) → IsHolderOfRun shared c
+    ends_holder : IsAtMost shared.floor rank → IsAtMost shared.lead rank → Contains shared.window (book_at shared c rank) → IsLedOfRun shared c
     ends_holder high low there = record { rank = rank; run = ends_of_run high; led = low; inside = there }
 
 -- ---- whatever a stop leaves
@@ -66,7 +67,7 @@ module _ (shared : Shared) (c : Reads) (v : Version) (has : Bool) (n : ℕ) (is 
 record LeftAt (shared : Shared) (c : Reads) (v : Version) (n : ℕ) (of_run holder : Bool) : Type 0 where
   kept : IsKept shared c
   run : of_run ≡ true → IsOfRun shared c (record { ctime = v.ctime; last = n })
-  held : holder ≡ true → IsHolderOfRun shared c
+  led : holder ≡ true → IsLedOfRun shared c
 
 higher : (r : Rank) (ctime lo n : ℕ) → IsAtMost r (record { ctime = ctime; last = lo }) → lo ≤ n → IsAtMost r (record { ctime = ctime; last = n })
 higher r ctime lo n (inl less) more = inl less
@@ -91,11 +92,11 @@ module _ (shared : Shared) (v : Version) (has : Bool) (lo hi : ℕ) (d : Disk) (
         | inr there ↦ subst (Contains shared.window) book (there n more few)
       ] in
       let room = fits.room in
-      let small : n < 2 ^ 62 = omega (arith, few, room) in
+      let small : n < spent_from = omega (arith, few, room) in
       record {
         kept = ends_kept shared c v has n is fits.ours small inside led;
         run = λ e. ends_of_run shared c v has n is fits.ours small inside led (higher shared.floor v.ctime lo n (floor e) more);
-        held = λ e. (let h = held e in ends_holder shared c v has n is fits.ours small inside led (higher shared.floor v.ctime lo n h.0 more) (higher shared.lead v.ctime lo n h.1 more) (subst (Contains shared.window) book (h.2 n more few)));
+        led = λ e. (let h = held e in ends_holder shared c v has n is fits.ours small inside led (higher shared.floor v.ctime lo n h.0 more) (higher shared.lead v.ctime lo n h.1 more) (subst (Contains shared.window) book (h.2 n more few)));
       }
 
   left_of : (c : Reads) → Leaves d c → IsFair d c → (n : ℕ) × LeftAt shared c v n of_run holder
@@ -105,7 +106,7 @@ module _ (shared : Shared) (v : Version) (has : Bool) (lo hi : ℕ) (d : Disk) (
   between_kept = record {
     kept = λ c leaves fair. (left_of c leaves fair).1.kept;
     run = λ e c leaves fair. (let it = left_of c leaves fair in (record { ctime = v.ctime; last = it.0 }, it.1.run e));
-    held = λ e c leaves fair. (left_of c leaves fair).1.held e;
+    led = λ e c leaves fair. (left_of c leaves fair).1.led e;
   }
 
 pub between_is_kept : BetweenIsKept
@@ -130,7 +131,7 @@ pub left_behind_is_kept : LeftBehindIsKept
 left_behind_is_kept old new of_run holder d on is low = record {
   kept = λ c leaves fair. outranked_is_kept old new c on (is.kept c leaves fair) (low c leaves fair);
   run = λ e. absurd (true≢false (sym e));
-  held = λ e. absurd (true≢false (sym e));
+  led = λ e. absurd (true≢false (sym e));
 }
 
 -- ---- one image and no record

@@ -1,5 +1,5 @@
 -- Sound directories are kept, by the rank of those chosen for the floor.
-use Rattle.std.proofs.Common.{Some, List, [], ◌∷◌, ◌++◌, length, append-nil, ◌≡◌, ◌⊎◌, inl, inr, ℕ, ◌<◌, ◌≤◌, ◌^◌, Option, None, refl, sym, ◌∙◌, ap, subst, arith, true≢false}
+use Rattle.std.proofs.Common.{Some, List, [], ◌∷◌, ◌++◌, length, append-nil, ◌≡◌, ◌⊎◌, inl, inr, ℕ, ◌<◌, ◌≤◌, Option, None, refl, sym, ◌∙◌, ap, subst, arith, true≢false}
 use Rattle.std.specs.Prelude.{Contains}
 use Rattle.std.proofs.lemmas.Bool.{cases_lt, cases_eq, cases_Bool}
 use Rattle.std.proofs.lemmas.Option.{none-some}
@@ -11,9 +11,9 @@ use Rattle.nn_chain.specs.Folder.{Folder}
 use Rattle.nn_chain.specs.Chain.{Reached, IsChain, EndsBare}
 use Rattle.nn_pick.specs.declared.intent.Intent.{Intent}
 use Rattle.nn_pick.specs.Dirs.{Dirs, ServesPrevious, ServesUnder, HasGreatestCtime, IsChosen, IsAmongChosen}
-use Rattle.nn_pick.specs.Refusing.{SomeChosen, IsChosenWithPrevious, HasServingPrevious}
+use Rattle.nn_pick.specs.Refusing.{spent_from, SomeChosen, IsChosenWithPrevious, HasServingPrevious}
 use Rattle.nn_pick.specs.Opening.{Book, IsSaved, Unsaved, Lost, Kept, AgreesOnSaved, AreSound}
-use Rattle.nn_kept.specs.Kept.{Rank, end_at, IsBelow, Shared, IsOfWindow, book_at, Stands, IsBelowFloor, HoldsSaved, IsKeptUnder, IsKept, IsOfRun, IsHolderOfRun}
+use Rattle.nn_kept.specs.Kept.{Rank, end_at, IsBelow, Shared, IsOfWindow, book_at, Stands, IsBelowFloor, HoldsSaved, IsKeptUnder, IsKept, IsOfRun, IsLedOfRun}
 use Rattle.nn_kept.specs.First.{IsFirst, SoundIsKept, SettledIsKept}
 use Rattle.nn_kept.specs.Laws.{IsOutranked}
 use Rattle.nn_kept.proofs.KeptLemmas.{under_each}
@@ -125,7 +125,7 @@ module _ (shared : Shared) (dirs : Dirs) (intent : Intent) (sound : AreSound dir
       let least = is.3.ahead.greatest sound.opens.first.dir sound.opens.version sound.opens.first.folder low.ahead.below low.ahead.under in
       omega (arith, most, least, ctime_is)
 
-  room : shared.floor.last < 2 ^ 62
+  room : shared.floor.last < spent_from
   room = let few = no_spent dirs intent sound.opens.unrefused sound.opens.version sound.opens.end some_chosen in omega (arith, few, last_is)
 
   -- the Book that it alone opens to
@@ -209,7 +209,7 @@ module _ (shared : Shared) (dirs : Dirs) (intent : Intent) (sound : AreSound dir
     ]
   ]
 
-  holder : (i : ℕ) → IsAmongChosen dirs i → HasServingPrevious dirs i ⊎ (sound.opened.book.saved ≡ None) → IsHolderOfRun shared (dirs.at i)
+  holder : (i : ℕ) → IsAmongChosen dirs i → HasServingPrevious dirs i ⊎ (sound.opened.book.saved ≡ None) → IsLedOfRun shared (dirs.at i)
   holder i is either = record {
     rank = shared.floor;
     run = of_run i is;
@@ -227,7 +227,7 @@ pub sound_is_kept : SoundIsKept
 sound_is_kept shared dirs intent sound first = record {
   kept = is_kept shared dirs intent sound first;
   run = of_run shared dirs intent sound first;
-  held = holder shared dirs intent sound first;
+  led = holder shared dirs intent sound first;
   behind = behind shared dirs intent sound first;
 }
 
@@ -254,5 +254,5 @@ pub settled_is_kept : SettledIsKept
 settled_is_kept shared of_run holder d r leaves kept run held = record {
   kept = λ c left fair. subst (IsKept shared) (sym (settled_reads d r c leaves left)) kept;
   run = λ e c left fair. (let it = run e in (it.0, subst (λ (x : Reads). IsOfRun shared x it.0) (sym (settled_reads d r c leaves left)) it.1));
-  held = λ e c left fair. subst (IsHolderOfRun shared) (sym (settled_reads d r c leaves left)) (held e);
+  led = λ e c left fair. subst (IsLedOfRun shared) (sym (settled_reads d r c leaves left)) (held e);
 }

@@ -14,7 +14,7 @@ use Rattle.nn_pick.proofs.VersionLemmas.{SaysTheSame, one_current, one_under}
 
 -- ---- one reading
 
-same_version : (v w : Version) → SaysTheSame v w → v ≡ w
+pub same_version : (v w : Version) → SaysTheSame v w → v ≡ w
 same_version v w same = λ k. record {
   namespace = same.namespace k;
   cluster = same.cluster k;

@@ -24,8 +24,8 @@ use Rattle.nn_pick.specs.Refused.{unusable, first_refused}
 use Rattle.nn_pick.specs.Dirs.{choice, Dirs, IsLowest, ServesCurrent, ServesPrevious, ServesUnder, HasGreatestCtime, IsChosen, IsAmongChosen, version_fault, fault_in}
 use Rattle.nn_pick.specs.Refusing.{Applies, SomeChosen, IsChosenWithPrevious, first_difference}
 use Rattle.nn_pick.specs.Opening.{Book, Opening, Opens, IsSaved, Unsaved, Kept, AgreesOnSaved, AreSound}
-use Rattle.nn_kept.specs.Kept.{Rank, end_at, IsBelow, IsAtMost, Shared, IsOfWindow, book_at, HasState, IsOurs, Stands, IsReached, HoldsSaved, IsKeptUnder, IsKept, IsHolderOfRun}
-use Rattle.nn_kept.specs.Laws.{OpenInto, HasOfRun, HasHolderOfRun, ChosenAreHigh, KeptOpen}
+use Rattle.nn_kept.specs.Kept.{Rank, end_at, IsBelow, IsAtMost, Shared, IsOfWindow, book_at, HasState, IsOurs, Stands, IsReached, HoldsSaved, IsKeptUnder, IsKept, IsLedOfRun}
+use Rattle.nn_kept.specs.Laws.{OpenInto, HasOfRun, HasLedOfRun, ChosenAreHigh, KeptOpen}
 use Rattle.nn_pick.proofs.VersionLemmas.{one_current, same_namespace, same_word}
 use Rattle.nn_pick.proofs.HoldsLemmas.{serves_formatted}
 use Rattle.nn_pick.proofs.OneImageLemmas.{none_refused}
@@ -322,7 +322,7 @@ module _ (shared : Shared) (dirs : Dirs) (kept : (i : ℕ) → i < dirs.count �
   ]
 
   -- a holder that stands at the greatest rank
-  at_top : (i : ℕ) → i < dirs.count → (h : IsHolderOfRun shared (dirs.at i)) → h.rank ≡ t.rank → Contains shared.window (book_with shared t.rank what)
+  at_top : (i : ℕ) → i < dirs.count → (h : IsLedOfRun shared (dirs.at i)) → h.rank ≡ t.rank → Contains shared.window (book_with shared t.rank what)
   at_top i below h same =
       let stands = subst (Stands shared (dirs.at i) h.run.version h.run.folder) same h.run.stands in
       let chosen = chosen_at shared dirs kept t i h.run.version h.run.folder below h.run.under stands in
@@ -336,7 +336,7 @@ module _ (shared : Shared) (dirs : Dirs) (kept : (i : ℕ) → i < dirs.count �
             )
       ]
 
-  at_most_top : (i : ℕ) → i < dirs.count → (h : IsHolderOfRun shared (dirs.at i)) → IsBelow h.rank t.rank ⊎ (h.rank ≡ t.rank)
+  at_most_top : (i : ℕ) → i < dirs.count → (h : IsLedOfRun shared (dirs.at i)) → IsBelow h.rank t.rank ⊎ (h.rank ≡ t.rank)
   at_most_top i below h =
       let within = t.within i below in
       let low = within.ctime h.run.version h.run.folder h.run.under in
@@ -355,21 +355,21 @@ module _ (shared : Shared) (dirs : Dirs) (kept : (i : ℕ) → i < dirs.count �
   below_too : (a b c : Rank) → IsAtMost a b → IsBelow b c → IsBelow a c
   below_too a b c p q = grind arith
 
-  kept_whole : (i : ℕ) → i < dirs.count → IsHolderOfRun shared (dirs.at i) → Contains shared.window (book_with shared t.rank what)
+  kept_whole : (i : ℕ) → i < dirs.count → IsLedOfRun shared (dirs.at i) → Contains shared.window (book_with shared t.rank what)
   kept_whole i below h = elim (at_most_top i below h) [
     | inl less ↦ above_lead (below_too shared.lead h.rank t.rank h.led less)
     | inr same ↦ at_top i below h same
   ]
 
-  held_kept : HasHolderOfRun shared dirs → Contains shared.window (book_with shared t.rank what)
+  held_kept : HasLedOfRun shared dirs → Contains shared.window (book_with shared t.rank what)
   held_kept holder = kept_whole holder.0 holder.1 holder.2
 
-  open_into : (held : Type 0) → (held → HasHolderOfRun shared dirs) → OpenInto shared.window held dirs
+  open_into : (held : Type 0) → (held → HasLedOfRun shared dirs) → OpenInto shared.window held dirs
   unfolding opened sound
   open_into held is = record { sound = sound; inside = inside; kept = λ h. held_kept (is h) }
 
 -- each of them is kept, and one is of the run
-pub open_held : (shared : Shared) (dirs : Dirs) (held : Type 0) → ((i : ℕ) → i < dirs.count → IsKept shared (dirs.at i)) → HasOfRun shared dirs → (held → HasHolderOfRun shared dirs) → OpenInto shared.window held dirs
+pub open_held : (shared : Shared) (dirs : Dirs) (held : Type 0) → ((i : ℕ) → i < dirs.count → IsKept shared (dirs.at i)) → HasOfRun shared dirs → (held → HasLedOfRun shared dirs) → OpenInto shared.window held dirs
 open_held shared dirs held kept run is =
     let t = top shared dirs kept run.0 run.1 run.2 run.3 in
     let part = saved_so shared dirs kept t in
@@ -382,4 +382,4 @@ chosen_are_high shared dirs kept run i is low =
     stands_high shared dirs kept t (dirs.at i) is.0 is.1 so.stands (low is.0 is.1 is.3.ahead.under)
 
 pub kept_open : KeptOpen
-kept_open shared count contents kept n numbers bound run = open_held shared (choice contents n numbers) (HasHolderOfRun shared (choice contents n numbers)) (λ k lt. kept (numbers k) (bound k lt)) run (λ h. h)
+kept_open shared count contents kept n numbers bound run = open_held shared (choice contents n numbers) (HasLedOfRun shared (choice contents n numbers)) (λ k lt. kept (numbers k) (bound k lt)) run (λ h. h)

@@ -6,7 +6,7 @@ use Rattle.nn_chain.specs.Fair.{IsFairStop}
 use Rattle.nn_pick.specs.Dirs.{Dirs, choice}
 use Rattle.nn_pick.specs.Opening.{Book}
 use Rattle.nn_kept.specs.Kept.{Shared, IsKept}
-use Rattle.nn_kept.specs.Laws.{IsPartOf, OpenInto, HasOfRun, HasHolderOfRun, AllKept, SomeCounts, KeptStops}
+use Rattle.nn_kept.specs.Laws.{IsPartOf, OpenInto, HasOfRun, HasLedOfRun, AllKept, SomeCounts, KeptStops}
 use Rattle.nn_kept.proofs.KeptOpenLemmas.{open_held}
 
 module _ (shared : Shared) (count : ℕ) (run held : ℕ → Dir → Bool) (m : Moment) (contents : ℕ → Reads) (all : AllKept shared count run held m) (leaves : (i : ℕ) → Leaves (m.dirs i).disk (contents i)) (fair : IsFairStop count m contents) where
@@ -20,10 +20,10 @@ module _ (shared : Shared) (count : ℕ) (run held : ℕ → Dir → Bool) (m : 
         let is = (all.at i (bound some.0 some.1)).run some.2 (contents i) (leaves i) (fair i (bound some.0 some.1)) in
         (some.0, is.0, some.1, is.1)
 
-    some_held : SomeCounts held m n numbers → HasHolderOfRun shared (choice contents n numbers)
+    some_held : SomeCounts held m n numbers → HasLedOfRun shared (choice contents n numbers)
     some_held some =
         let i = numbers some.0 in
-        (some.0, some.1, (all.at i (bound some.0 some.1)).held some.2 (contents i) (leaves i) (fair i (bound some.0 some.1)))
+        (some.0, some.1, (all.at i (bound some.0 some.1)).led some.2 (contents i) (leaves i) (fair i (bound some.0 some.1)))
 
 wider : (some all : List Book) (held : Type 0) (dirs : Dirs) → IsPartOf some all → OpenInto some held dirs → OpenInto all held dirs
 wider some all held dirs part is = record {

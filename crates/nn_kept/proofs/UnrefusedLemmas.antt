@@ -27,8 +27,9 @@ use Rattle.nn_pick.specs.declared.refusal.Refusal.{Refusal}
 use Rattle.nn_pick.specs.declared.refusal.Refusal.TheVariants as refusal
 use Rattle.nn_pick.specs.Refused.{unusable, first_refused, or_else}
 use Rattle.nn_pick.specs.Dirs.{Dirs, IsLowest, IsFormatted, ServesCurrent, ServesUnder, HasGreatestCtime, version_fault, fault_in}
-use Rattle.nn_pick.specs.Refusing.{IsUnrefused, SomeChosen, IsFaulty, Differs, HasLayout, IsFuture, IsForeign, IsOurLayout, first_difference}
+use Rattle.nn_pick.specs.Refusing.{spent_from, IsUnrefused, SomeChosen, IsFaulty, Differs, HasLayout, IsFuture, IsForeign, IsOurLayout, first_difference}
 use Rattle.nn_kept.specs.Kept.{HasState}
+use Rattle.nn_pick.proofs.OneImageLemmas.{each_unrefused}
 use Rattle.nn_pick.proofs.VersionLemmas.{one_current}
 use Rattle.nn_marks.proofs.FaultlessLemmas.{faultless}
 use Rattle.nn_pick.proofs.HoldsLemmas.{serves_formatted}
@@ -79,13 +80,6 @@ first_so t (suc n) = or_else_so (first_refused (λ j. unusable j (t j)) n) (unus
 both_none : (o p : Option Refusal) → or_else o p ≡ None → (o ≡ None) × (p ≡ None)
 both_none None p e = (refl, e)
 both_none (Some r) p e = absurd (none-some r (sym e))
-
-each_none : (f : ℕ → Option Refusal) (n : ℕ) → first_refused f n ≡ None → (i : ℕ) → i < n → f i ≡ None
-each_none f zero e i below = absurd (omega (arith, below))
-each_none f (suc n) e i below = elim (cases_lt i n) [
-  | inl before ↦ each_none f n (both_none (first_refused f n) (f n) e).0 i before
-  | inr last ↦ (let same : n ≡ i = omega (arith, below, last) in subst (λ (k : ℕ). f k ≡ None) same (both_none (first_refused f n) (f n) e).1)
-]
 
 usable_state : (j : ℕ) (r : Result StorageState Why) → unusable j r ≡ None → (state : StorageState) × (r ≡ Ok state) × (state ≢ NonExistent)
 usable_state j (Ok NonExistent) e = absurd (none-some _ (sym e))
@@ -142,7 +136,7 @@ module _ (dirs : Dirs) (intent : Intent) (unrefused : IsUnrefused dirs intent) w
   ]
 
   pub has_state : (i : ℕ) → i < dirs.count → HasState (dirs.at i)
-  has_state i below = usable_state i (table_of (seven_of (dirs.at i))) (each_none (λ j. unusable j (table_of (seven_of (dirs.at j)))) dirs.count none_refuses i below)
+  has_state i below = usable_state i (table_of (seven_of (dirs.at i))) (each_unrefused (λ j. unusable j (table_of (seven_of (dirs.at j)))) dirs.count none_refuses i below)
 
   -- what serves, if anything does
 
@@ -247,8 +241,8 @@ module _ (dirs : Dirs) (intent : Intent) (unrefused : IsUnrefused dirs intent) w
 
   -- the last id
 
-  pub no_spent : (v : Version) (end : Reached) → SomeChosen dirs v end → end.last < 2 ^ 62
-  no_spent v end is = elim (cases_lt end.last (2 ^ 62)) [ inl low ↦ low | inr high ↦ absurd (unrefused (refusal.Spent end.last) (v, end, is, refl, high)) ]
+  pub no_spent : (v : Version) (end : Reached) → SomeChosen dirs v end → end.last < spent_from
+  no_spent v end is = elim (cases_lt end.last (spent_from)) [ inl low ↦ low | inr high ↦ absurd (unrefused (refusal.Spent end.last) (v, end, is, refl, high)) ]
 
   module _ (v : Version) (end : Reached) (some : SomeChosen dirs v end) where
     -- an id that some seen_txid of the greatest cTime says, and that is too high

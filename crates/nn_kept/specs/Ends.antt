@@ -1,5 +1,5 @@
 -- A directory that stands, told by itself, and when it is kept.
-use Rattle.std.specs.Prelude.{Option, ◌≡◌, ◌⊎◌, ℕ, ◌+◌, ◌<◌, ◌≤◌, ◌^◌, Bool, true, false, Some, None, is_some, Contains, if◌then◌else◌}
+use Rattle.std.specs.Prelude.{Option, ◌≡◌, ◌⊎◌, ℕ, ◌+◌, ◌<◌, ◌≤◌, Bool, true, false, Some, None, is_some, Contains, if◌then◌else◌}
 use Rattle.nn_host.specs.Disk.{Disk, Reads}
 use Rattle.nn_marks.specs.declared.version.Version.{Version}
 use Rattle.nn_state.specs.Seat.{saved}
@@ -8,7 +8,7 @@ use Rattle.nn_chain.specs.Folder.{Folder, HasSeen}
 use Rattle.nn_chain.specs.Chain.{Reached, IsChain, EndsBare}
 use Rattle.nn_pick.specs.declared.refusal.PreviousWhy.{PreviousWhy}
 use Rattle.nn_pick.specs.Dirs.{ServesPrevious, ServesUnder}
-use Rattle.nn_pick.specs.Refusing.{IsWrong}
+use Rattle.nn_pick.specs.Refusing.{spent_from, IsWrong}
 use Rattle.nn_pick.specs.Opening.{Book, IsSavedChain}
 use Rattle.nn_pick.specs.Laws.{HoldsImage}
 use Rattle.nn_kept.specs.Kept.{Rank, IsBelow, IsAtMost, Shared, IsOfWindow, end_at, HasState, IsOurs, IsKept, IsOfRun}
@@ -51,16 +51,16 @@ EndsBetween version has what list lo hi d = EachLeft d (λ c. (n : ℕ) × (lo �
 -- What is shared has room for such a disk: the window has each of these Books, with its saved part kept or emptied; kept, unless hi isn't above the lead.
 pub record HasRoom (shared : Shared) (version : Version) (has : Bool) (lo hi : ℕ) : Type 0 where
   pub ours : IsOurs shared version
-  pub room : hi < 2 ^ 62
+  pub room : hi < spent_from
   pub inside : (n : ℕ) → lo ≤ n → n ≤ hi → IsOfWindow shared.window (book_of has (shared.saved version.ctime) (shared.ns version.ctime n))
   pub led : IsAtMost (record { ctime = version.ctime; last = hi }) shared.lead ⊎ ((n : ℕ) → lo ≤ n → n ≤ hi → Contains shared.window (book_of has (shared.saved version.ctime) (shared.ns version.ctime n)))
 
--- It is kept then. It is of the run where lo isn't below the floor; and a holder, where it isn't below the lead either and each of the Books is there as it is.
+-- It is kept then. It is of the run where lo isn't below the floor; and a leader, where it isn't below the lead either and each of the Books is there as it is.
 abbrev pub BetweenIsKept : Type 0
-BetweenIsKept = (shared : Shared) (version : Version) (has : Bool) (lo hi : ℕ) (d : Disk) (of_run holder : Bool) → EndsBetween version has (shared.saved version.ctime) (shared.ns version.ctime) lo hi d → HasRoom shared version has lo hi
+BetweenIsKept = (shared : Shared) (version : Version) (has : Bool) (lo hi : ℕ) (d : Disk) (of_run leader : Bool) → EndsBetween version has (shared.saved version.ctime) (shared.ns version.ctime) lo hi d → HasRoom shared version has lo hi
     → (of_run ≡ true → IsAtMost shared.floor (record { ctime = version.ctime; last = lo }))
-    → (holder ≡ true → IsAtMost shared.floor (record { ctime = version.ctime; last = lo }) × IsAtMost shared.lead (record { ctime = version.ctime; last = lo }) × ((n : ℕ) → lo ≤ n → n ≤ hi → Contains shared.window (book_of has (shared.saved version.ctime) (shared.ns version.ctime n))))
-    → IsKeptDisk shared of_run holder d
+    → (leader ≡ true → IsAtMost shared.floor (record { ctime = version.ctime; last = lo }) × IsAtMost shared.lead (record { ctime = version.ctime; last = lo }) × ((n : ℕ) → lo ≤ n → n ≤ hi → Contains shared.window (book_of has (shared.saved version.ctime) (shared.ns version.ctime n))))
+    → IsKeptDisk shared of_run leader d
 
 -- And so does each kept directory of the run end: all that is asked of it but the window.
 abbrev pub OfRunEnds : Type 0
@@ -77,4 +77,4 @@ BetweenIsOutranked = (shared : Shared) (version : Version) (has : Bool) (what : 
 
 -- A disk that was kept and is left behind stays kept, and no longer counts.
 abbrev pub LeftBehindIsKept : Type 0
-LeftBehindIsKept = (old new : Shared) (of_run holder : Bool) (d : Disk) → IsOnward old new → IsKeptDisk old of_run holder d → EachLeft d (IsOutranked new) → IsKeptDisk new false false d
+LeftBehindIsKept = (old new : Shared) (of_run leader : Bool) (d : Disk) → IsOnward old new → IsKeptDisk old of_run leader d → EachLeft d (IsOutranked new) → IsKeptDisk new false false d

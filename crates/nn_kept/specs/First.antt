@@ -1,7 +1,6 @@
 -- Where a run begins, and where a rollback does: sound directories are kept.
 use Rattle.std.specs.Prelude.{◌≡◌, ◌⊎◌, ℕ, ◌<◌, Bool, true, Some, None, Contains}
 use Rattle.nn_host.specs.Disk.{Disk, Reads, Leaves, Settle, disk_after}
-use Rattle.nn_state.specs.Seat.{saved}
 use Rattle.nn_tree.specs.Namespace.{Namespace}
 use Rattle.nn_chain.specs.Folder.{Folder}
 use Rattle.nn_pick.specs.declared.intent.Intent.{Intent}
@@ -10,7 +9,7 @@ use Rattle.nn_pick.specs.declared.refusal.Refusal.TheVariants.{NoPrevious}
 use Rattle.nn_pick.specs.Dirs.{Dirs, ServesUnder, IsAmongChosen}
 use Rattle.nn_pick.specs.Refusing.{HasServingPrevious, Refuses}
 use Rattle.nn_pick.specs.Opening.{Book, Opens, AreSound}
-use Rattle.nn_kept.specs.Kept.{Rank, Shared, IsKept, IsOfRun, IsHolderOfRun}
+use Rattle.nn_kept.specs.Kept.{Rank, Shared, IsKept, IsOfRun, IsLedOfRun}
 use Rattle.nn_kept.specs.Laws.{IsOutranked, IsKeptDisk}
 
 -- ---- where a run begins
@@ -24,11 +23,11 @@ pub record IsFirst (shared : Shared) (dirs : Dirs) (intent : Intent) (sound : Ar
   pub saved : shared.saved shared.floor.ctime ≡ sound.opened.book.saved
   pub there : Contains shared.window sound.opened.book
 
--- Each is kept. Those chosen are of the run; and holders, if they have a previous or nothing is saved. The floor has left the others behind.
+-- Each is kept. Those chosen are of the run; and leaders, if they have a previous or nothing is saved. The floor has left the others behind.
 pub record AreKeptFirst (shared : Shared) (dirs : Dirs) (book : Book) : Type 0 where
   pub kept : (i : ℕ) → i < dirs.count → IsKept shared (dirs.at i)
   pub run : (i : ℕ) → IsAmongChosen dirs i → IsOfRun shared (dirs.at i) shared.floor
-  pub held : (i : ℕ) → IsAmongChosen dirs i → HasServingPrevious dirs i ⊎ (book.saved ≡ None) → IsHolderOfRun shared (dirs.at i)
+  pub led : (i : ℕ) → IsAmongChosen dirs i → HasServingPrevious dirs i ⊎ (book.saved ≡ None) → IsLedOfRun shared (dirs.at i)
   pub behind : (i : ℕ) → i < dirs.count → ¬ IsAmongChosen dirs i → IsOutranked shared (dirs.at i)
 
 -- sound directories are kept
@@ -37,8 +36,8 @@ SoundIsKept = (shared : Shared) (dirs : Dirs) (intent : Intent) (sound : AreSoun
 
 -- So is the disk of such a directory once it was settled: a stop leaves of it what reads.
 abbrev pub SettledIsKept : Type 0
-SettledIsKept = (shared : Shared) (of_run holder : Bool) (d : Disk) (r : Reads) → Leaves d r → IsKept shared r → (of_run ≡ true → (rank : Rank) × IsOfRun shared r rank) → (holder ≡ true → IsHolderOfRun shared r)
-    → IsKeptDisk shared of_run holder (disk_after Settle r d)
+SettledIsKept = (shared : Shared) (of_run leader : Bool) (d : Disk) (r : Reads) → Leaves d r → IsKept shared r → (of_run ≡ true → (rank : Rank) × IsOfRun shared r rank) → (leader ≡ true → IsLedOfRun shared r)
+    → IsKeptDisk shared of_run leader (disk_after Settle r d)
 
 -- ---- where a rollback begins
 

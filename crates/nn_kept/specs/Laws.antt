@@ -4,33 +4,32 @@ use Rattle.nn_host.specs.Disk.{Disk, Reads, Leaves}
 use Rattle.nn_host.specs.Moments.{Dir, Moment, State, Left, moment}
 use Rattle.nn_host.specs.Runs.{EachDir, Throughout}
 use Rattle.nn_marks.specs.declared.version.Version.{Version}
-use Rattle.nn_state.specs.Seat.{saved}
 use Rattle.nn_chain.specs.Folder.{Folder}
 use Rattle.nn_chain.specs.Fair.{IsFair, IsFairStop}
 use Rattle.nn_pick.specs.declared.intent.Intent.TheVariants.{Start}
 use Rattle.nn_pick.specs.Dirs.{Dirs, ServesUnder, IsAmongChosen, choice, EachChoice}
 use Rattle.nn_pick.specs.Opening.{Book, AreSound}
-use Rattle.nn_kept.specs.Kept.{Rank, Shared, IsOfWindow, IsBelowFloor, IsKept, IsOfRun, IsHolderOfRun}
+use Rattle.nn_kept.specs.Kept.{Rank, Shared, IsOfWindow, IsBelowFloor, IsKept, IsOfRun, IsLedOfRun}
 
 -- ---- the law
 
--- They are sound for a start and open to a Book of the window; with its saved part kept, where a holder is among them.
-pub record OpenInto (window : List Book) (held : Type 0) (dirs : Dirs) : Type 0 where
+-- They are sound for a start and open to a Book of the window; with its saved part kept, where a leader is among them.
+pub record OpenInto (window : List Book) (has_leader : Type 0) (dirs : Dirs) : Type 0 where
   pub sound : AreSound dirs Start
   pub inside : IsOfWindow window sound.opened.book
-  pub kept : held → Contains window sound.opened.book
+  pub kept : has_leader → Contains window sound.opened.book
 
--- some directory is of the run; some is a holder
+-- some directory is of the run; some is a leader
 abbrev pub HasOfRun : Shared → Dirs → Type 0
 HasOfRun shared dirs = (i : ℕ) × (rank : Rank) × (i < dirs.count) × IsOfRun shared (dirs.at i) rank
 
-abbrev pub HasHolderOfRun : Shared → Dirs → Type 0
-HasHolderOfRun shared dirs = (i : ℕ) × (i < dirs.count) × IsHolderOfRun shared (dirs.at i)
+abbrev pub HasLedOfRun : Shared → Dirs → Type 0
+HasLedOfRun shared dirs = (i : ℕ) × (i < dirs.count) × IsLedOfRun shared (dirs.at i)
 
 -- Where each directory is kept, every choice of them that has a directory of the run opens so.
 abbrev pub KeptOpen : Type 0
 KeptOpen = (shared : Shared) (count : ℕ) (contents : ℕ → Reads) → ((i : ℕ) → i < count → IsKept shared (contents i))
-    → EachChoice count contents (λ dirs. HasOfRun shared dirs → OpenInto shared.window (HasHolderOfRun shared dirs) dirs)
+    → EachChoice count contents (λ dirs. HasOfRun shared dirs → OpenInto shared.window (HasLedOfRun shared dirs) dirs)
 
 -- it ranks below the floor: the floor has left it behind
 abbrev pub IsOutranked : Shared → Reads → Type 0
@@ -46,15 +45,15 @@ ChosenAreHigh = (shared : Shared) (dirs : Dirs) → ((i : ℕ) → i < dirs.coun
 abbrev pub EachLeft : Disk → (Reads → Type 0) → Type 0
 EachLeft d P = (c : Reads) → Leaves d c → IsFair d c → P c
 
--- a disk that is kept; of the run and a holder, if it counts as such
-pub record IsKeptDisk (shared : Shared) (of_run holder : Bool) (d : Disk) : Type 0 where
+-- a disk that is kept; of the run and a leader, if it counts as such
+pub record IsKeptDisk (shared : Shared) (of_run leader : Bool) (d : Disk) : Type 0 where
   pub kept : EachLeft d (IsKept shared)
   pub run : of_run ≡ true → EachLeft d (λ c. (rank : Rank) × IsOfRun shared c rank)
-  pub held : holder ≡ true → EachLeft d (IsHolderOfRun shared)
+  pub led : leader ≡ true → EachLeft d (IsLedOfRun shared)
 
--- each of the directories is so at this moment, by which of them count, with the faults that they have, as of the run and as holders
+-- each of the directories is so at this moment, by which of them count, with the faults that they have, as of the run and as leaders
 abbrev pub AllKept : Shared → ℕ → (ℕ → Dir → Bool) → (ℕ → Dir → Bool) → Moment → Type 0
-AllKept shared count run held = EachDir (λ i d. i < count → IsKeptDisk shared (run i d) (held i d) d.disk)
+AllKept shared count run leaders = EachDir (λ i d. i < count → IsKeptDisk shared (run i d) (leaders i d) d.disk)
 
 -- some number of a choice counts so at this moment
 abbrev pub SomeCounts : (ℕ → Dir → Bool) → Moment → ℕ → (ℕ → ℕ) → Type 0
@@ -64,18 +63,18 @@ SomeCounts counts m n numbers = (k : ℕ) × (k < n) × (counts (numbers k) (m.d
 abbrev pub IsPartOf : List Book → List Book → Type 0
 IsPartOf some all = (book : Book) → Contains some book → Contains all book
 
--- At this moment, for some shared things whose window is part of the run's, each directory is so. Which of them count, as of the run and as holders, is told of the moment: others may do once a start has been said.
+-- At this moment, for some shared things whose window is part of the run's, each directory is so. Which of them count, as of the run and as leaders, is told of the moment: others may do once a start has been said.
 abbrev pub KeptInto : (Moment → List Book) → ℕ → (Moment → ℕ → Dir → Bool) → (Moment → ℕ → Dir → Bool) → Moment → Type 0
-KeptInto window count run held m = (shared : Shared) × IsPartOf shared.window (window m) × AllKept shared count (run m) (held m) m
+KeptInto window count run leaders m = (shared : Shared) × IsPartOf shared.window (window m) × AllKept shared count (run m) (leaders m) m
 
 -- A fair stop at such a moment leaves directories of which every choice with one of the run opens so, into each window that has the shared one.
 abbrev pub KeptStops : Type 0
-KeptStops = (shared : Shared) (window : List Book) (count : ℕ) (run held : ℕ → Dir → Bool) (m : Moment) (contents : ℕ → Reads) → IsPartOf shared.window window
-    → AllKept shared count run held m → ((i : ℕ) → Leaves (m.dirs i).disk (contents i)) → IsFairStop count m contents
-    → (n : ℕ) (numbers : ℕ → ℕ) → ((k : ℕ) → k < n → numbers k < count) → SomeCounts run m n numbers → OpenInto window (SomeCounts held m n numbers) (choice contents n numbers)
+KeptStops = (shared : Shared) (window : List Book) (count : ℕ) (run leaders : ℕ → Dir → Bool) (m : Moment) (contents : ℕ → Reads) → IsPartOf shared.window window
+    → AllKept shared count run leaders m → ((i : ℕ) → Leaves (m.dirs i).disk (contents i)) → IsFairStop count m contents
+    → (n : ℕ) (numbers : ℕ → ℕ) → ((k : ℕ) → k < n → numbers k < count) → SomeCounts run m n numbers → OpenInto window (SomeCounts leaders m n numbers) (choice contents n numbers)
 
 -- So does each fair stop since a run of calls began of which each moment is so.
 abbrev pub KeptRuns : Type 0
-KeptRuns = (window : Moment → List Book) (count : ℕ) (run held : Moment → ℕ → Dir → Bool) (old new : State) → KeptInto window count run held old.now → KeptInto window count run held old.ended → Throughout (Unit {0}) old new (KeptInto window count run held)
+KeptRuns = (window : Moment → List Book) (count : ℕ) (run leaders : Moment → ℕ → Dir → Bool) (old new : State) → KeptInto window count run leaders old.now → KeptInto window count run leaders old.ended → Throughout (Unit {0}) old new (KeptInto window count run leaders)
     → (m : Moment) (contents : ℕ → Reads) → Left new (moment old) contents m → IsFairStop count m contents
-    → (n : ℕ) (numbers : ℕ → ℕ) → ((k : ℕ) → k < n → numbers k < count) → SomeCounts (run m) m n numbers → OpenInto (window m) (SomeCounts (held m) m n numbers) (choice contents n numbers)
+    → (n : ℕ) (numbers : ℕ → ℕ) → ((k : ℕ) → k < n → numbers k < count) → SomeCounts (run m) m n numbers → OpenInto (window m) (SomeCounts (leaders m) m n numbers) (choice contents n numbers)

@@ -5,13 +5,13 @@ ghost use Rattle.nn_kept.specs.Ends.{SameSeatEnds, OfRunEnds, HeldImageEnds, Bet
 ghost use Rattle.nn_kept.specs.First.{SettledIsKept, SoundIsKept, SoundRollsBack};
 
 /// Where each directory is kept, every choice of them that has a directory of the run is sound for a start and opens to a
-/// Book of the run's window; where it has a holder, with the saved part kept.
+/// Book of the run's window; where it has a leader, with the saved part kept.
 pub fn kept_directories_open()
     ensures { KeptOpen }
 {}
 
 /// A fair stop at a moment at which each directory is kept leaves directories of which every choice with one of the run is
-/// sound for a start and opens into the window; where it has a holder, with the saved part kept.
+/// sound for a start and opens into the window; where it has a leader, with the saved part kept.
 pub fn kept_stops()
     ensures { KeptStops }
 {}

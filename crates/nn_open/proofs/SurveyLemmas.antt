@@ -1,5 +1,5 @@
 -- From directory to directory: what a survey has found so far, and what it says of all of them.
-use Rattle.std.proofs.Common.{◌≡◌, ◌⊎◌, inl, inr, ⊎_elim, ℕ, zero, suc, ◌+◌, ◌<◌, Option, Some, None, Result, Ok, Err, refl, sym, ◌∙◌, ap, subst, arith, add-one}
+use Rattle.std.proofs.Common.{◌≡◌, ◌⊎◌, inl, inr, ⊎_elim, ℕ, ◌+◌, ◌<◌, Option, None, Result, Ok, Err, refl, sym, ◌∙◌, ap, subst, arith, add-one}
 use Rattle.std.proofs.lemmas.Bool.Decides.{eqb_tells}
 use Rattle.nn_host.specs.Disk.{Disk, Reads, Settle, disk_after}
 use Rattle.nn_host.specs.Moments.{State, Dir, disk_at, faults_at}
@@ -11,7 +11,8 @@ use Rattle.nn_state.specs.declared.state.StorageState.TheVariants.{NonExistent, 
 use Rattle.nn_state.specs.declared.state.Why.{Why}
 use Rattle.nn_state.specs.Table.{seven_of, table_of}
 use Rattle.nn_pick.specs.declared.refusal.Refusal.{Refusal}
-use Rattle.nn_pick.specs.Refused.{unformattable, or_else, first_refused}
+use Rattle.nn_pick.specs.Refused.{unformattable, or_else}
+use Rattle.nn_pick.proofs.OneImageLemmas.{each_unrefused}
 use Rattle.nn_open.specs.Answers.{first_unformattable, settled_disk, AllFresh, EachAsBefore}
 
 -- settling a disk once more changes nothing of it
@@ -78,17 +79,6 @@ module _ {told : Type 0} {k : ℕ} {a b c : State} {first : Option Refusal} (so_
 
 -- where none is refused, each is NOT_FORMATTED
 
-none_first : (first later : Option Refusal) → or_else first later ≡ None → (first ≡ None) × (later ≡ None)
-none_first None later e = (refl, e)
-none_first (Some first) later e = cc
-
-none_refused : (f : ℕ → Option Refusal) (n : ℕ) → first_refused f n ≡ None → (i : ℕ) → i < n → f i ≡ None
-none_refused f zero e i below = absurd (omega (arith, below))
-none_refused f (suc n) e i below = elim (eqb_tells i n) [
-  | inl is ↦ subst (λ (x : ℕ). f x ≡ None) (sym is.1) (none_first (first_refused f n) (f n) e).1
-  | inr differs ↦ none_refused f n (none_first (first_refused f n) (f n) e).0 i (omega (arith, below, differs.1))
-]
-
 formattable : (i : ℕ) (found : Result StorageState Why) → unformattable i found ≡ None → found ≡ Ok NotFormatted
 formattable i (Ok NotFormatted) e = refl
 formattable i (Ok NonExistent) e = cc
@@ -103,4 +93,4 @@ formattable i (Ok RecoverCheckpoint) e = cc
 formattable i (Err why) e = cc
 
 pub unrefused : (s : State) → first_unformattable s.reads s.count ≡ None → AllFresh s
-unrefused s e i below = formattable i (table_of (seven_of (s.reads i))) (none_refused (λ j. unformattable j (table_of (seven_of (s.reads j)))) s.count e i below)
+unrefused s e i below = formattable i (table_of (seven_of (s.reads i))) (each_unrefused (λ j. unformattable j (table_of (seven_of (s.reads j)))) s.count e i below)

@@ -10,7 +10,7 @@ ghost use Rattle.nn_open.specs.Answers.{first_unformattable, settled_disk, EachA
 use crate::fault::FailedAt;
 use nn_base::DirNo;
 use nn_host::{Failed, Host};
-use nn_pick::{Refusal, first_of, unformattable};
+use nn_pick::{Refusal, earlier, unformattable};
 use nn_state::{look, table};
 
 /// Settles each directory and looks at it, all of them in order, and tells the first refusal.
@@ -25,7 +25,7 @@ pub fn survey<H: Host>(host: &mut H) -> Result<Option<Refusal>, FailedAt>
     let mut first = None;
     for i in 0..host.count() {
         match survey_dir(host, DirNo(i)) {
-            Ok(refusal) => first = first_of(first, refusal),
+            Ok(refusal) => first = earlier(first, refusal),
             Err(Failed) => return Err(FailedAt(DirNo(i))),
         }
     }

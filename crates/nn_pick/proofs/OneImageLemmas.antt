@@ -1,5 +1,6 @@
 -- Directories that hold one image and no record, or aren't formatted: they open to that image's namespace, and are sound.
 use Rattle.std.proofs.Common.{◌≡◌, ◌⊎◌, inl, inr, ℕ, zero, suc, ℤ, ◌<◌, Bool, Option, Some, None, refl, sym, ◌∙◌, ap, ap₂, subst, arith, Decides}
+use Rattle.std.proofs.lemmas.Bool.{cases_lt}
 use Rattle.std.specs.Prelude.{◌≢◌, ◌<ℤ◌, is_some, nat_lt}
 use Rattle.std.proofs.lemmas.Bool.{cases_Bool}
 use Rattle.std.proofs.lemmas.Bool.Decides.{Decides-ltb, Decides-and, not_from_Decides, eqb_tells}
@@ -49,6 +50,18 @@ some_decides (Some x) = (λ e gone. none-some x (sym gone), λ is. refl)
 pub none_refused : (f : ℕ → Option Refusal) (n : ℕ) → ((i : ℕ) → i < n → f i ≡ None) → first_refused f n ≡ None
 none_refused f zero all = refl
 none_refused f (suc n) all = ap₂ or_else (none_refused f n (λ i below. all i (omega (arith, below)))) (all n (omega arith))
+
+-- where none is refused, each isn't
+pub each_unrefused : (f : ℕ → Option Refusal) (n : ℕ) → first_refused f n ≡ None → (i : ℕ) → i < n → f i ≡ None
+each_unrefused f zero e i below = absurd (omega (arith, below))
+each_unrefused f (suc n) e i below = elim (cases_lt i n) [
+  | inl before ↦ each_unrefused f n (neither (first_refused f n) (f n) e).0 i before
+  | inr last ↦ subst (λ (k : ℕ). f k ≡ None) (omega (arith, below, last)) (neither (first_refused f n) (f n) e).1
+]
+  where
+    neither : (first later : Option Refusal) → or_else first later ≡ None → (first ≡ None) × (later ≡ None)
+    neither None later is = (refl, is)
+    neither (Some first) later is = cc
 
 module _ (dirs : Dirs) (version : Version) (id : ℕ) (ns : Namespace) (h : HoldOneImage dirs version id ns) where
   -- ---- those that are formatted hold the image

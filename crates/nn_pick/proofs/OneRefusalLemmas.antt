@@ -18,7 +18,7 @@ use Rattle.nn_pick.specs.declared.refusal.PreviousWhy.TheVariants as why
 use Rattle.nn_pick.specs.declared.refusal.Refusal.{Refusal}
 use Rattle.nn_pick.specs.declared.refusal.Refusal.TheVariants.{Missing, Inconsistent, Formatted, NotFormatted, BadVersion, Mismatch, FutureLayout, ForeignLayout, NoImage, Gap, Spent, PreviousExists, CtimeSpent, NoPrevious, BadPrevious}
 use Rattle.nn_pick.specs.Dirs.{Dirs, IsLowest, IsFormatted, HasGreatestCtime, ServesCurrent, ServesPrevious, ServesUnder, IsGreatestSeen, version_fault}
-use Rattle.nn_pick.specs.Refusing.{Applies, SomeChosen, Differs, HasLayout, IsFuture, IsForeign, IsFaulty, IsChosenWithPrevious, HasBadPrevious, IsFirstWrong, IsWrong, first_difference, test_of, place_of}
+use Rattle.nn_pick.specs.Refusing.{Applies, SomeChosen, Differs, HasLayout, IsFuture, IsForeign, IsFaulty, IsChosenWithPrevious, HasBadPrevious, IsFirstWrong, IsWrong, first_difference, test_of, order_of}
 use Rattle.nn_pick.proofs.VersionLemmas.{SaysTheSame, same_turned, one_current, one_previous, one_under}
 use Rattle.nn_pick.proofs.UnderLemmas.{one_image_why}
 
@@ -114,7 +114,7 @@ reason_at (suc (suc (suc zero))) = why.Ctime
 reason_at (suc (suc (suc (suc zero)))) = why.Image
 reason_at (suc (suc (suc (suc (suc n))))) = why.Gap
 
-reason_at-place : (reason : PreviousWhy) → reason_at (place_of reason) ≡ reason
+reason_at-place : (reason : PreviousWhy) → reason_at (order_of reason) ≡ reason
 unfolding reason_at
 reason_at-place why.Version = refl
 reason_at-place why.Ids = refl
@@ -132,7 +132,7 @@ wrong_from why.Image v w folder same is = is
 wrong_from why.Gap v w folder same is = is
 
 first_wrong : (a b : PreviousWhy) (v w : Version) (folder : Folder) → SaysTheSame v w → IsFirstWrong a v folder → IsFirstWrong b w folder → a ≡ b
-first_wrong a b v w folder same p q = elim (cases_order (place_of a) (place_of b)) [
+first_wrong a b v w folder same p q = elim (cases_order (order_of a) (order_of b)) [
   | inl e ↦ sym (reason_at-place a) ∙ ap reason_at e ∙ reason_at-place b
   | inr apart ↦ elim apart [
     | inl before ↦ absurd (q.1 a before (wrong_from a v w folder same p.0))

@@ -1,5 +1,5 @@
 -- What follows from the definitions of opening and refusing alone.
-use Rattle.std.specs.Prelude.{◌≡◌, ◌⊎◌, ℕ, ◌+◌, ◌<◌, ◌≤◌, ◌^◌, false, None, Ok}
+use Rattle.std.specs.Prelude.{◌≡◌, ◌⊎◌, ℕ, ◌+◌, ◌<◌, ◌≤◌, false, None, Ok}
 use Rattle.nn_base.specs.declared.sub.Sub.TheVariants.{Current, Previous}
 use Rattle.nn_host.specs.Disk.{Reads}
 use Rattle.nn_marks.specs.declared.version.Version.{Version}
@@ -13,7 +13,7 @@ use Rattle.nn_chain.specs.Chain.{HasNoSegment, HasNoLater}
 use Rattle.nn_pick.specs.declared.intent.Intent.{Intent}
 use Rattle.nn_pick.specs.declared.refusal.Refusal.{Refusal}
 use Rattle.nn_pick.specs.Dirs.{Dirs, HasFormatted}
-use Rattle.nn_pick.specs.Refusing.{Refuses, IsOurLayout}
+use Rattle.nn_pick.specs.Refusing.{Refuses, IsOurLayout, spent_from}
 use Rattle.nn_pick.specs.Opening.{Opening, Opens, OpensAlone, OpenSoundly}
 
 -- at most one refusal is the answer
@@ -40,7 +40,7 @@ pub record HoldsImage (c : Reads) (version : Version) (id : ℕ) (ns : Namespace
   pub later : HasNoLater (c.file Current) id
   pub segments : HasNoSegment (c.file Current)
   pub seen : (seen : ℕ) → HasSeen (c.file Current) seen → seen ≤ id + 1
-  pub room : id < 2 ^ 62
+  pub room : id < spent_from
 
 -- it alone opens to the namespace of that image
 abbrev pub AnImageOpensAlone : Type 0

@@ -71,16 +71,16 @@ IsWrong why.Image version folder = (own : Version) × HasVersion folder own × (
 IsWrong why.Gap version folder = (own : Version) × (end : Reached) × (seen : ℕ) × HasVersion folder own × IsChain folder own end × HasSeen folder seen × (end.last + 1 < seen)
 
 -- in the order in which it is looked for
-abbrev pub place_of : PreviousWhy → ℕ
-place_of why.Version = 0
-place_of why.Ids = 1
-place_of why.Layout = 2
-place_of why.Ctime = 3
-place_of why.Image = 4
-place_of why.Gap = 5
+abbrev pub order_of : PreviousWhy → ℕ
+order_of why.Version = 0
+order_of why.Ids = 1
+order_of why.Layout = 2
+order_of why.Ctime = 3
+order_of why.Image = 4
+order_of why.Gap = 5
 
 abbrev pub IsFirstWrong : PreviousWhy → Version → Folder → Type 0
-IsFirstWrong reason version folder = IsWrong reason version folder × ((earlier : PreviousWhy) → place_of earlier < place_of reason → ¬ IsWrong earlier version folder)
+IsFirstWrong reason version folder = IsWrong reason version folder × ((earlier : PreviousWhy) → order_of earlier < order_of reason → ¬ IsWrong earlier version folder)
 
 -- some folder of it serves as previous, whatever its name
 abbrev pub HasServingPrevious : Dirs → ℕ → Type 0
@@ -102,6 +102,10 @@ pub record HasBadPrevious (dirs : Dirs) (i : ℕ) (reason : PreviousWhy) : Type 
 
 -- ---- the tests
 
+-- the transaction id from which on no run starts
+abbrev pub spent_from : ℕ
+spent_from = 2 ^ 62
+
 -- some chosen directory has this VERSION and this end of its chain
 pub record SomeChosen (dirs : Dirs) (version : Version) (end : Reached) : Type 0 where
   pub dir : ℕ
@@ -120,7 +124,7 @@ Applies dirs intent (FutureLayout i found) = IsLowest dirs.count (λ j. (layout 
 Applies dirs intent (ForeignLayout i found) = IsLowest dirs.count (λ j. (layout : ℤ) × HasLayout dirs IsForeign j layout) i.0 × HasLayout dirs IsForeign i.0 found
 Applies dirs intent (NoImage i reason) = IsLowest dirs.count (λ j. (version : Version) × (folder : Folder) × HasGreatestCtime dirs j version folder) i.0 × ((j : ℕ) (version : Version) (folder : Folder) (id : ℕ) → HasGreatestCtime dirs j version folder → ¬ HasIntact folder version id) × (version : Version) × (folder : Folder) × HasGreatestCtime dirs i.0 version folder × HasNoImage folder version reason
 Applies dirs intent (Gap seen last) = (version : Version) × (end : Reached) × SomeChosen dirs version end × (last ≡ end.last) × IsGreatestSeen dirs seen × (last + 1 < seen)
-Applies dirs intent (Spent last) = (version : Version) × (end : Reached) × SomeChosen dirs version end × (last ≡ end.last) × (2 ^ 62 ≤ last)
+Applies dirs intent (Spent last) = (version : Version) × (end : Reached) × SomeChosen dirs version end × (last ≡ end.last) × (spent_from ≤ last)
 Applies dirs intent (PreviousExists i) = (intent ≡ Upgrade) × IsLowest dirs.count (IsChosenWithPrevious dirs) i.0
 Applies dirs intent (CtimeSpent old) = (intent ≡ Upgrade) × (version : Version) × (end : Reached) × SomeChosen dirs version end × (version.ctime ≡ old) × (old ≡ 2 ^ 63 - 1) × ((i : ℕ) → ¬ IsChosenWithPrevious dirs i)
 Applies dirs intent NoPrevious = (intent ≡ Rollback) × ((i : ℕ) → ¬ IsChosenWithPrevious dirs i)

@@ -10,5 +10,5 @@ mod refused;
 
 pub use fault::OpenFault;
 pub use intent::Intent;
-pub use refusal::{PreviousWhy, Refusal};
-pub use refused::{first_of, unformattable, unusable};
+pub use refusal::{PreviousWhy, Refusal, SPENT_FROM};
+pub use refused::{earlier, unformattable, unusable};

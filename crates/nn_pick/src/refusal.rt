@@ -8,6 +8,9 @@ use nn_state::Why;
 use std::alloc::Global;
 use std::fmt;
 
+/// The transaction id from which on no run starts, so that none comes to the last id that a signed `long` holds.
+pub const SPENT_FROM: u64 = 1 << 62;
+
 /// Why the folder that serves as previous can't be opened. Each holds where the ones before it don't.
 #[derive(Clone, Copy, Debug, PartialEq, Eq)]
 pub enum PreviousWhy {
@@ -66,7 +69,7 @@ pub enum Refusal {
     NoImage(DirNo, ImageWhy),
     /// The records end at `last`, though a `seen_txid` says that the journal went on to `seen`.
     Gap { seen: u64, last: Txid },
-    /// The last transaction id is 2^62 or above, which leaves no room for a run.
+    /// The last transaction id is `SPENT_FROM` or above, which leaves no room for a run.
     Spent(Txid),
     /// This directory has a saved namespace already, so none can be saved.
     PreviousExists(DirNo),

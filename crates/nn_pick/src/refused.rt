@@ -32,7 +32,7 @@ pub fn unformattable(i: DirNo, found: Result<StorageState, Why>) -> Option<Refus
 }
 
 /// The refusal of a lower directory, if there is one, or else this one.
-pub fn first_of(lower: Option<Refusal>, next: Option<Refusal>) -> Option<Refusal>
+pub fn earlier(lower: Option<Refusal>, next: Option<Refusal>) -> Option<Refusal>
     ensures { result ≡ or_else lower next }
 {
     lower.or(next)

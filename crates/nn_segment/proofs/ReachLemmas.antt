@@ -23,11 +23,11 @@ nothing_reached bytes first = record { rs = []; ids = tt; text = refl; len = ref
 
 -- ---- one record more
 
-one_more_from : (first : ℕ) (rs : List Record) (r : Record) → AreFrom first rs → IsRecord r → r.id ≡ first + length rs → AreFrom first (rs ++ r ∷ [])
+pub one_more_from : (first : ℕ) (rs : List Record) (r : Record) → AreFrom first rs → IsRecord r → r.id ≡ first + length rs → AreFrom first (rs ++ r ∷ [])
 one_more_from first [] r from is e = (omega (arith, e), is, tt)
 one_more_from first (q ∷ rs) r from is e = (from.0, from.1, one_more_from (first + 1) rs r from.2 is (omega (arith, e)))
 
-spelled-push : (rs : List Record) (r : Record) → spelled (rs ++ r ∷ []) ≡ spelled rs ++ spelling r
+pub spelled-push : (rs : List Record) (r : Record) → spelled (rs ++ r ∷ []) ≡ spelled rs ++ spelling r
 unfolding spelled
 spelled-push rs r = flat_map-append spelling rs (r ∷ []) ∙ ap (λ t. spelled rs ++ t) (append-nil (spelling r))
 

@@ -66,7 +66,7 @@ rest_is bytes end = take_all (length bytes - end) (drop end bytes) (omega (arith
 
 -- ---- the header
 
-length-header : (layout : ℤ) → length (header layout) ≡ 8
+pub length-header : (layout : ℤ) → length (header layout) ≡ 8
 unfolding header
 length-header layout = refl
 

@@ -66,7 +66,7 @@ clearing_keeps shared old d kept either is = ⊎_elim
     (λ keeps. record {
       kept = keeps_current shared old d kept either keeps;
       run = λ e. absurd (true≢false (sym e));
-      held = λ e. absurd (true≢false (sym e));
+      led = λ e. absurd (true≢false (sym e));
     })
     is
 

@@ -32,7 +32,7 @@ pub fresh_is_kept : FreshIsKept
 fresh_is_kept shared d fresh = record {
   kept = λ c leaves fair. fresh_is_kept_so shared c (fresh_left d c leaves fresh);
   run = λ e. absurd (true≢false (sym e));
-  held = λ e. absurd (true≢false (sym e));
+  led = λ e. absurd (true≢false (sym e));
 }
 
 -- ---- made

@@ -13,7 +13,7 @@ use Rattle.nn_remake.proofs.LeftLemmas.{seven_left, some_left}
 use Rattle.nn_pick.specs.Dirs.{ServesCurrent, ServesUnder}
 use Rattle.nn_pick.proofs.HoldsLemmas.{serves_formatted}
 use Rattle.nn_pick.proofs.VersionLemmas.{one_current}
-use Rattle.nn_kept.specs.Kept.{Rank, Shared, IsKept, IsOfRun, IsHolderOfRun}
+use Rattle.nn_kept.specs.Kept.{Rank, Shared, IsKept, IsOfRun, IsLedOfRun}
 use Rattle.nn_kept.specs.Laws.{IsOutranked, EachLeft}
 use Rattle.nn_kept.specs.Onward.{HasSameSeat}
 use Rattle.nn_kept.proofs.KeptOnwardLemmas.{book_same, same_under, same_stands, same_seat_is_kept, same_seat_ends}
@@ -44,7 +44,7 @@ module _ (shared : Shared) (old new : Reads) (seat : HasSameSeat old new) where
     high = is.high;
   }
 
-  same_holder : IsHolderOfRun shared old → IsHolderOfRun shared new
+  same_holder : IsLedOfRun shared old → IsLedOfRun shared new
   same_holder is = record { rank = is.rank; run = same_of_run is.rank is.run; led = is.led; inside = subst (Contains shared.window) (book_same shared old new is.rank seat.there) is.inside }
 
   same_outranked : IsOutranked shared old → IsOutranked shared new
@@ -81,7 +81,7 @@ recovering_keeps shared of_run holder old d is keeps =
     record {
       kept = each_seat (IsKept shared) (λ before c seat it. same_seat_is_kept shared before c seat it) old d same is.kept;
       run = λ e. each_seat (λ c. (rank : Rank) × IsOfRun shared c rank) (λ before c seat it. (it.0, same_of_run shared before c seat it.0 it.1)) old d same (is.run e);
-      held = λ e. each_seat (IsHolderOfRun shared) (λ before c seat it. same_holder shared before c seat it) old d same (is.held e);
+      led = λ e. each_seat (IsLedOfRun shared) (λ before c seat it. same_holder shared before c seat it) old d same (is.led e);
     }
 
 pub recovering_leaves_behind : RecoveringLeavesBehind

@@ -55,9 +55,9 @@ RecoveredIsSure = (i : ℕ) (sub : Sub) (old new : State) → serving (disk_at o
 
 -- ---- a recovery, or what else keeps the seat
 
--- At each moment of a recovery a kept directory is kept, and counts as of the run and as a holder if it did before.
+-- At each moment of a recovery a kept directory is kept, and counts as of the run and as a leader if it did before.
 abbrev pub RecoveringKeeps : Type 0
-RecoveringKeeps = (shared : Shared) (of_run holder : Bool) (old d : Disk) → IsKeptDisk shared of_run holder old → KeepsSeat old d → IsKeptDisk shared of_run holder d
+RecoveringKeeps = (shared : Shared) (of_run leader : Bool) (old d : Disk) → IsKeptDisk shared of_run leader old → KeepsSeat old d → IsKeptDisk shared of_run leader d
 
 -- One that the floor has left behind stays behind.
 abbrev pub RecoveringLeavesBehind : Type 0

@@ -32,7 +32,7 @@ pub fn a_recovered_directory_is_certain()
     ensures { RecoveredIsSure }
 {}
 
-/// A kept directory is kept at each moment of a recovery, as one of the run and as a holder if it was one.
+/// A kept directory is kept at each moment of a recovery, as one of the run and as a leader if it was one.
 pub fn a_directory_in_recovery_is_kept()
     ensures { RecoveringKeeps }
 {}

@@ -2,7 +2,7 @@
 use nn_base::{DirNo, Txid};
 use nn_chain::ImageWhy;
 use nn_marks::{Key, VersionFault};
-use nn_pick::{PreviousWhy, Refusal, first_of, unformattable, unusable};
+use nn_pick::{PreviousWhy, Refusal, earlier, unformattable, unusable};
 use nn_state::{StorageState, Why};
 use std::test::Fail;
 
@@ -101,10 +101,10 @@ fn a_state_that_is_half_recovered_can_be_worked_on_and_not_formatted(rt: HostRun
         assert!(rt; unformattable(i, found) == format_refused);
     }
     assert!(rt;
-        first_of(
+        earlier(
             Some(Refusal::Missing(DirNo(0))),
             Some(Refusal::Formatted(i))
         ) == Some(Refusal::Missing(DirNo(0)))
     );
-    assert!(rt; first_of(None, Some(Refusal::Formatted(i))) == Some(Refusal::Formatted(i)));
+    assert!(rt; earlier(None, Some(Refusal::Formatted(i))) == Some(Refusal::Formatted(i)));
 }
