@@ -17,7 +17,8 @@ use Rattle.nn_server.specs.declared.session.Unsaid.{Unsaid}
 use Rattle.nn_server.specs.declared.session.Unsaid.TheVariants as unsaid
 use Rattle.nn_server.specs.declared.reader.Next.{Next}
 use Rattle.nn_server.specs.declared.reader.Next.TheVariants as next
-use Rattle.nn_server.specs.Reader.{EndedLine, LastLine, NoLine, PastBudget, Stopped, IsNext}
+use Rattle.nn_server.specs.Reading.{most_kept}
+use Rattle.nn_server.specs.Reader.{EndedLine, LastLine, NoLine, PastBudget, Stopped, IsNextLine}
 use Rattle.nn_server.specs.Came.{is_out_fault, CameTo}
 use Rattle.nn_server.specs.Codes.{dry_status}
 use Rattle.nn_server.specs.Saying.{CutOff, SaysAll, BreaksOff, pieces_of}
@@ -126,21 +127,21 @@ so_far_nothing script ahead budget none whole first = record {
 
 -- ---- what was read
 
-pub line_read_so : {told : Type 0} {before after line again : Bytes} {budget budget_after : ℕ} (read : Next) → read ≡ next.Line → again ≡ line → IsNext told read before after budget budget_after line
+pub line_read_so : {told : Type 0} {before after line again : Bytes} {budget budget_after : ℕ} (read : Next) → read ≡ next.Line → again ≡ line → IsNextLine told read before after budget budget_after line
     → EndedLine told before after budget budget_after again
 line_read_so {told} {before} {after} {line} {again} {budget} {budget_after} read is same e =
-    subst (λ (x : Bytes). EndedLine told before after budget budget_after x) (sym same) (subst (λ (x : Next). IsNext told x before after budget budget_after line) is e)
+    subst (λ (x : Bytes). EndedLine told before after budget budget_after x) (sym same) (subst (λ (x : Next). IsNextLine told x before after budget budget_after line) is e)
 
-pub last_read_so : {told : Type 0} {before after line again : Bytes} {budget budget_after : ℕ} (read : Next) → read ≡ next.Last → again ≡ line → IsNext told read before after budget budget_after line
+pub last_read_so : {told : Type 0} {before after line again : Bytes} {budget budget_after : ℕ} (read : Next) → read ≡ next.Last → again ≡ line → IsNextLine told read before after budget budget_after line
     → LastLine told before after budget budget_after again
 last_read_so {told} {before} {after} {line} {again} {budget} {budget_after} read is same e =
-    subst (λ (x : Bytes). LastLine told before after budget budget_after x) (sym same) (subst (λ (x : Next). IsNext told x before after budget budget_after line) is e)
+    subst (λ (x : Bytes). LastLine told before after budget budget_after x) (sym same) (subst (λ (x : Next). IsNextLine told x before after budget budget_after line) is e)
 
-pub none_read_so : {told : Type 0} {before after : Bytes} (budget budget_after : ℕ) (line : Bytes) (read : Next) → read ≡ next.End → IsNext told read before after budget budget_after line → NoLine told before after
-none_read_so {told} {before} {after} budget budget_after line read is e = subst (λ (x : Next). IsNext told x before after budget budget_after line) is e
+pub none_read_so : {told : Type 0} {before after : Bytes} (budget budget_after : ℕ) (line : Bytes) (read : Next) → read ≡ next.End → IsNextLine told read before after budget budget_after line → NoLine told before after
+none_read_so {told} {before} {after} budget budget_after line read is e = subst (λ (x : Next). IsNextLine told x before after budget budget_after line) is e
 
-pub past_read_so : {told : Type 0} {before after : Bytes} {budget : ℕ} (budget_after : ℕ) (line : Bytes) (read : Next) → read ≡ next.TooLong → IsNext told read before after budget budget_after line → PastBudget told before after budget
-past_read_so {told} {before} {after} {budget} budget_after line read is e = subst (λ (x : Next). IsNext told x before after budget budget_after line) is e
+pub past_read_so : {told : Type 0} {before after : Bytes} {budget : ℕ} (budget_after : ℕ) (line : Bytes) (read : Next) → read ≡ next.TooLong → IsNextLine told read before after budget budget_after line → PastBudget told before after budget
+past_read_so {told} {before} {after} {budget} budget_after line read is e = subst (λ (x : Next). IsNextLine told x before after budget budget_after line) is e
 
 -- ---- the line that is answered next
 
@@ -163,7 +164,7 @@ pub line_due : {told_host told_source : Type 0} {script : Bytes} {old mid : Host
     → NextDue told_source script left (stripped so_far.parts) s line
 line_due {told_source = told_source} {script} {line = line} ahead left room so_far next = record {
   whole = strip_carriage_return next.body;
-  alike = (λ i. answer_of (so_far.scene i) line) ∙ ap (reply_by (after_lines first_state (stripped so_far.parts))) (ap reading_of next.is ∙ stripped_reads_alike 65537 next.body (omega arith));
+  alike = (λ i. answer_of (so_far.scene i) line) ∙ ap (reply_by (after_lines first_state (stripped so_far.parts))) (ap reading_of next.is ∙ stripped_reads_alike most_kept next.body (omega arith));
   taken = front ++ ahead;
   few = few;
   read = first (front ++ ahead) ahead refl;
@@ -214,7 +215,7 @@ last_line_due {script = script} {line = line} ahead left so_far last =
     let taken = so_far.done ++ last.body in
     let read : due_lines taken ≡ lines ++ [] = due_short taken due.few ∙ sym due.read ∙ sym (append-nil lines) in record {
       whole = last.body;
-      alike = (λ i. answer_of (so_far.scene i) line) ∙ ap (reply_by (after_lines first_state (stripped so_far.parts))) (ap reading_of last.is ∙ front_reads_alike 65537 last.body (omega arith));
+      alike = (λ i. answer_of (so_far.scene i) line) ∙ ap (reply_by (after_lines first_state (stripped so_far.parts))) (ap reading_of last.is ∙ front_reads_alike most_kept last.body (omega arith));
       taken = taken;
       few = due.few;
       read = ([], read);

@@ -1,12 +1,12 @@
 -- From the answer of formatting to what the command has said and done.
-use Rattle.std.proofs.Common.{◌≡◌, ◌≢◌, ◌⊎◌, inl, inr, ⊎_elim, ℕ, ◌<◌, false, List, [], ◌++◌, take, drop, None, Result, Ok, Err, refl, sym, ◌∙◌, ap, subst}
+use Rattle.std.proofs.Common.{◌≡◌, ◌≢◌, inl, inr, ⊎_elim, ℕ, ◌<◌, false, [], ◌++◌, drop, None, Result, Ok, Err, refl, sym, ◌∙◌, ap, subst}
 use Rattle.std.proofs.lemmas.List.{append-nil, take-append-drop}
 use Rattle.nn_base.specs.Paths.{Bytes}
 use Rattle.nn_host.specs.Disk.{Disk, Reads, Leaves}
-use Rattle.nn_host.specs.Moments.{Dir, Moment, State, IsLawful, Left, disk_at, faults_at, moment}
+use Rattle.nn_host.specs.Moments.{Dir, State, IsLawful, disk_at}
 use Rattle.nn_host.specs.Calls.{Spoke}
-use Rattle.nn_host.specs.Runs.{Untouched, Unspoken, SameCounts, Throughout, EachDir}
-use Rattle.nn_host.proofs.RunsLemmas.{throughout_refl, throughout_trans, throughout_weaker, out_whole_unspoken, out_whole_trans, out_spoke, unspoken_refl}
+use Rattle.nn_host.specs.Runs.{Unspoken, SameCounts}
+use Rattle.nn_host.proofs.RunsLemmas.{throughout_refl, throughout_weaker, out_whole_unspoken, out_whole_trans, out_spoke}
 use Rattle.nn_host.proofs.WorkLemmas.{each_dir_said}
 use Rattle.nn_host.proofs.LeftLemmas.{each_since}
 use Rattle.nn_marks.specs.declared.version.Version.{Version}
@@ -26,7 +26,7 @@ use Rattle.nn_server.specs.declared.format_run.FormatEnd.TheVariants.{Done, OutF
 use Rattle.nn_server.specs.declared.format_run.FormatEnd.TheVariants as end
 use Rattle.nn_server.specs.Lines.{formatted_line}
 use Rattle.nn_server.specs.Came.{is_out_fault, CameTo, Counts}
-use Rattle.nn_server.specs.Format.{IsNewVersion, FreshOrAsked, EachFreshOrAsked, LeftFreshOrAsked, LeftByFormat, StopsFreshOrAsked, FormatDid, FormatRan, format_status, format_failed, unformatted}
+use Rattle.nn_server.specs.Format.{IsNewVersion, FreshOrAsked, EachFreshOrAsked, LeftFreshOrAsked, StopsFreshOrAsked, FormatDid, FormatRan, format_status, format_failed, unformatted}
 use Rattle.nn_server.proofs.CameLemmas.{said_since, speaks_whole, speaks_cut, cut_since}
 
 -- ---- after a stop

@@ -5,11 +5,13 @@ use Rattle.std.specs.Str.Lines.{strip_carriage_return}
 use Rattle.std.proofs.lemmas.List.{length-take-le, take_all}
 use Rattle.std.proofs.lemmas.Bool.{cases_lt}
 use Rattle.std.proofs.lemmas.Bool.Decides.{nat_tests}
+use Rattle.nn_base.specs.Limits.{most_line}
 use Rattle.nn_base.specs.Paths.{Bytes}
 use Rattle.nn_script.specs.Lines.{has_no_answer}
 use Rattle.nn_script.specs.Reading.{reading_of, command_on}
 use Rattle.nn_script.specs.Arguments.{◌>>=◌}
 use Rattle.nn_script.specs.declared.syntax.Syntax.TheVariants.{Long}
+use Rattle.nn_server.specs.Reading.{most_kept}
 
 -- the front of a line begins as the line does
 begins_alike : (n : ℕ) (line : Bytes) → 0 < n → has_no_answer (take n line) ≡ has_no_answer line
@@ -36,17 +38,17 @@ if_true : {A : Type 0} (b : Bool) (x y : A) → b ≡ true → (if b then x else
 if_true true x y e = refl
 if_true false x y e = absurd (cc e)
 
-long_command : (line : Bytes) → nat_lt 65535 (length line) ≡ true → command_on line ≡ Err Long
-long_command line e = if_true (nat_lt 65535 (length line)) (Err Long) _ e
+long_command : (line : Bytes) → nat_lt most_line (length line) ≡ true → command_on line ≡ Err Long
+long_command line e = if_true (nat_lt most_line (length line)) (Err Long) _ e
 
-long_reading : (line : Bytes) → 65535 < length line → reading_of line ≡ (if has_no_answer line then Ok None else Err Long)
+long_reading : (line : Bytes) → most_line < length line → reading_of line ≡ (if has_no_answer line then Ok None else Err Long)
 unfolding reading_of
 long_reading line long =
-    let e : nat_lt 65535 (length line) ≡ true = grind (arith, nat_tests) in
+    let e : nat_lt most_line (length line) ≡ true = grind (arith, nat_tests) in
     let read : (command_on line >>= (λ command. Ok (Some command))) ≡ Err Long = ap (λ r. r >>= (λ command. Ok (Some command))) (long_command line e) in
     ap (λ r. if has_no_answer line then Ok None else r) read
 
-alike : (a b : Bytes) → 65535 < length a → 65535 < length b → has_no_answer a ≡ has_no_answer b → reading_of a ≡ reading_of b
+alike : (a b : Bytes) → most_line < length a → most_line < length b → has_no_answer a ≡ has_no_answer b → reading_of a ≡ reading_of b
 alike a b long_a long_b same = long_reading a long_a ∙ ap (λ x. if x then Ok None else Err Long) same ∙ sym (long_reading b long_b)
 
 pub front_reads_alike : (n : ℕ) (line : Bytes) → 65536 ≤ n → reading_of (take n line) ≡ reading_of line
@@ -55,7 +57,7 @@ front_reads_alike n line enough = elim (cases_lt n (length line)) [
   | inr short ↦ ap reading_of (take_all n line short)
 ]
 
-pub stripped_reads_alike : (n : ℕ) (line : Bytes) → 65537 ≤ n → reading_of (strip_carriage_return (take n line)) ≡ reading_of (strip_carriage_return line)
+pub stripped_reads_alike : (n : ℕ) (line : Bytes) → most_kept ≤ n → reading_of (strip_carriage_return (take n line)) ≡ reading_of (strip_carriage_return line)
 stripped_reads_alike n line enough = elim (cases_lt n (length line)) [
   | inl long ↦
       let len = length-take-le n line (omega arith) in

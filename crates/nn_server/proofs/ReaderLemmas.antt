@@ -8,10 +8,9 @@ use Rattle.std.proofs.lemmas.List.Elements.{All-append, All-nil}
 use Rattle.std.proofs.lemmas.Bool.Decides.{nat_tests}
 use Rattle.nn_base.specs.Paths.{Bytes}
 use Rattle.nn_host.specs.Sources.{Took}
-use Rattle.nn_server.specs.declared.reader.Next.{Next}
 use Rattle.nn_server.specs.declared.reader.Next.TheVariants.{TooLong}
-use Rattle.nn_server.specs.Reading.{front_of, kept_of, past_of, IsBehind}
-use Rattle.nn_server.specs.Reader.{EndedLine, IsNext, Stopped, PartRead, HasRead, Refilled}
+use Rattle.nn_server.specs.Reading.{most_kept, front_of, kept_of, past_of, IsBehind}
+use Rattle.nn_server.specs.Reader.{EndedLine, IsNextLine, Stopped, PartRead, HasRead, Refilled}
 use Rattle.nn_base.proofs.MarkLemmas.{split_at_mark, mark_within, no_mark_before, no_mark}
 use Rattle.nn_server.proofs.BytesLemmas.{is_newline, range_rest, front_front, no_bytes}
 
@@ -26,7 +25,7 @@ pub has_read_more : {told : Type 0} {before : Bytes} {budget : ℕ} {ahead rest 
 has_read_more {rest = rest} left room so_far read = record {
   body = so_far.body ++ read.part;
   unended = All-append (λ byte. is_newline byte ≡ false) so_far.body read.part so_far.unended read.unended;
-  is = read.is ∙ ap (λ front. front_of (front ++ read.part)) so_far.is ∙ front_front 65537 so_far.body read.part;
+  is = read.is ∙ ap (λ front. front_of (front ++ read.part)) so_far.is ∙ front_front most_kept so_far.body read.part;
   bytes = λ tells. so_far.bytes tells ∙ ap (λ a. so_far.body ++ (a ++ left)) read.ahead ∙ ap (λ x. so_far.body ++ x) (append_assoc read.part rest left) ∙ sym (append_assoc so_far.body read.part (rest ++ left));
   budget = omega (arith, so_far.budget, ap length read.ahead, length-append read.part rest, length-append so_far.body read.part);
 }
@@ -36,7 +35,7 @@ pub ended_line : {told : Type 0} {before : Bytes} {budget : ℕ} {ahead rest lin
 ended_line {rest = rest} left room so_far read = record {
   body = so_far.body ++ read.part;
   unended = All-append (λ byte. is_newline byte ≡ false) so_far.body read.part so_far.unended read.unended;
-  is = ap strip_carriage_return (read.is ∙ ap (λ front. front_of (front ++ read.part)) so_far.is ∙ front_front 65537 so_far.body read.part);
+  is = ap strip_carriage_return (read.is ∙ ap (λ front. front_of (front ++ read.part)) so_far.is ∙ front_front most_kept so_far.body read.part);
   bytes = λ tells. so_far.bytes tells ∙ ap (λ a. so_far.body ++ (a ++ left)) read.ahead ∙ ap (λ x. so_far.body ++ x) (append_assoc read.part (10 ∷ rest) left) ∙ sym (append_assoc so_far.body read.part (10 ∷ (rest ++ left)));
   budget = omega (arith, so_far.budget, ap length read.ahead, length-append read.part (10 ∷ rest), length-append so_far.body read.part);
 }
@@ -57,13 +56,13 @@ length_kept : (n : ℕ) (body kept : Bytes) → 0 < n → kept ≡ take n body �
 length_kept n body kept some e = (λ zero. omega (arith, ap length e, length-take n body), λ zero. omega (arith, ap length e, length-take n body))
 
 kept_some : {byte : ℕ} {bytes : Bytes} (body : Bytes) → byte ∷ bytes ≡ front_of body → body ≢ []
-kept_some {byte} {bytes} body e none = absurd (omega (arith, (length_kept 65537 body (byte ∷ bytes) (omega arith) e).1 (ap length none)))
+kept_some {byte} {bytes} body e none = absurd (omega (arith, (length_kept most_kept body (byte ∷ bytes) (omega arith) e).1 (ap length none)))
 
 -- there is no more
 pub last_line : {told : Type 0} {before after : Bytes} {budget budget_after : ℕ} (line : Bytes)
-    → HasRead told before after budget budget_after line → (told → after ≡ []) → IsNext told (kept_of line) before after budget budget_after line
+    → HasRead told before after budget budget_after line → (told → after ≡ []) → IsNextLine told (kept_of line) before after budget budget_after line
 last_line [] so_far none = record {
-  bytes = λ tells. so_far.bytes tells ∙ (λ i. no_bytes so_far.body ((length_kept 65537 so_far.body [] (omega arith) so_far.is).0 refl) i ++ none tells i);
+  bytes = λ tells. so_far.bytes tells ∙ (λ i. no_bytes so_far.body ((length_kept most_kept so_far.body [] (omega arith) so_far.is).0 refl) i ++ none tells i);
   none = none;
 }
 last_line (byte ∷ bytes) so_far none = record {
@@ -83,7 +82,7 @@ stopped so_far same = record { body = so_far.body; unended = so_far.unended; byt
 -- all the bytes that the lines may have were read
 pub past_room : {told : Type 0} {before : Bytes} {budget room : ℕ} {ahead line : Bytes} (left left_after : Bytes) (more : Bool) (budget_after : ℕ)
     → HasRead told before (ahead ++ left) budget (length ahead + room) line → ahead ≡ [] → room ≡ 0 → budget_after ≡ length ahead + room → IsBehind told more left left_after
-    → IsNext told (past_of more line) before (ahead ++ left_after) budget budget_after line
+    → IsNextLine told (past_of more line) before (ahead ++ left_after) budget budget_after line
 past_room {ahead = ahead} left left_after true budget_after so_far none zero same behind = record {
   body = so_far.body;
   byte = behind.0;

@@ -1,5 +1,5 @@
 -- Texts in pieces, and runs that say them.
-use Rattle.std.proofs.Common.{◌≡◌, ◌⊎◌, inl, inr, ⊎_elim, ℕ, zero, suc, ◌+◌, ◌-◌, ◌*◌, ◌/◌, ◌<◌, ◌≤◌, true, false, ◌==◌, List, [], ◌∷◌, ◌++◌, length, take, drop, map, Result, Ok, Err, length-append, length-drop, append_assoc, sym, ap, ◌∙◌, refl, subst, arith}
+use Rattle.std.proofs.Common.{◌≡◌, inl, inr, ⊎_elim, ℕ, zero, suc, ◌+◌, ◌-◌, ◌*◌, ◌/◌, ◌<◌, ◌≤◌, true, false, ◌==◌, List, [], ◌∷◌, ◌++◌, length, take, drop, Result, Ok, Err, length-append, length-drop, append_assoc, sym, ap, ◌∙◌, refl, subst, arith}
 use Rattle.std.specs.Prelude.{IsErr}
 use Rattle.std.specs.List.{All, concat}
 use Rattle.std.proofs.lemmas.Bool.{eqb-true}
@@ -7,12 +7,11 @@ use Rattle.std.proofs.lemmas.List.{append-nil, map-append, take-append-drop, tak
 use Rattle.std.proofs.lemmas.List.Elements.{All-nil, All-cons, All-head, All-tail, All-append}
 use Rattle.nn_base.specs.Paths.{Bytes}
 use Rattle.nn_host.specs.Disk.{Reads}
-use Rattle.nn_host.specs.Moments.{State, Dir, Event, Say}
+use Rattle.nn_host.specs.Moments.{State, Dir, Say}
 use Rattle.nn_host.specs.Calls.{Spoke, next_count, most_said}
 use Rattle.nn_host.specs.Runs.{AllAnswered}
 use Rattle.nn_host.specs.declared.host.Failed.{Failed}
-use Rattle.nn_host.proofs.RunsLemmas.{untouched_trans, untouched_spoke, silent_after, silent_spoke, spoke_front, all_answered_refl, all_answered_trans, all_answered_spoke}
-use Rattle.nn_server.specs.Came.{Records}
+use Rattle.nn_host.proofs.RunsLemmas.{untouched_trans, untouched_spoke, silent_after, silent_spoke, all_answered_refl, all_answered_trans, all_answered_spoke}
 use Rattle.nn_server.specs.Saying.{first_pieces, pieces_of, OutFailed, CutOff, SaysAll, BreaksOff, Says, Streams, Puts}
 use Rattle.nn_server.proofs.BytesLemmas.{no_bytes}
 use Rattle.nn_server.proofs.CameLemmas.{records_nothing, records_none, records_then, records_as, records_call, spoke_records}

@@ -1,11 +1,11 @@
 -- From directory to directory: what `state` has said and found so far, and what it did at each end.
-use Rattle.std.proofs.Common.{◌≡◌, ◌≢◌, ◌⊎◌, true, false, ℕ, suc, ◌+◌, ◌<◌, ◌≤◌, List, [], ◌∷◌, ◌++◌, length, take, drop, Option, Some, None, Result, Ok, Err, refl, sym, ◌∙◌, ap, subst, arith, length-append, append_assoc, add-one}
+use Rattle.std.proofs.Common.{◌≡◌, ◌≢◌, ◌⊎◌, true, false, ℕ, suc, ◌+◌, ◌<◌, List, [], ◌∷◌, ◌++◌, length, take, drop, Option, Some, None, Result, Ok, Err, refl, sym, ◌∙◌, ap, subst, arith, length-append, append_assoc, add-one}
 use Rattle.std.proofs.lemmas.List.{append-nil, length-map, take-append-drop}
 use Rattle.nn_base.specs.Paths.{Bytes}
 use Rattle.nn_host.specs.Disk.{Reads}
 use Rattle.nn_host.specs.Moments.{Dir, Entry, Event, State, Say, moment}
 use Rattle.nn_host.specs.Calls.{Spoke}
-use Rattle.nn_host.specs.Runs.{SameCounts, Looked, LooksAlone, AllAnswered}
+use Rattle.nn_host.specs.Runs.{Looked, LooksAlone, AllAnswered}
 use Rattle.nn_host.proofs.RunsLemmas.{all_answered_refl, all_answered_trans, all_answered_looked, all_answered_spoke, out_whole_trans, untouched_trans, untouched_spoke, rose_last}
 use Rattle.nn_state.specs.declared.state.StorageState.{StorageState}
 use Rattle.nn_state.specs.declared.state.Why.{Why}

@@ -49,11 +49,11 @@ pub record PastBudget (told : Type 0) (before after : Bytes) (budget_before : �
   pub bytes : told → before ≡ body ++ byte ∷ after
   pub whole : length body ≡ budget_before
 
-abbrev pub IsNext : Type 0 → Next → Bytes → Bytes → ℕ → ℕ → Bytes → Type 0
-IsNext told Line before after budget_before budget_after line = EndedLine told before after budget_before budget_after line
-IsNext told Last before after budget_before budget_after line = LastLine told before after budget_before budget_after line
-IsNext told End before after budget_before budget_after line = NoLine told before after
-IsNext told TooLong before after budget_before budget_after line = PastBudget told before after budget_before
+abbrev pub IsNextLine : Type 0 → Next → Bytes → Bytes → ℕ → ℕ → Bytes → Type 0
+IsNextLine told Line before after budget_before budget_after line = EndedLine told before after budget_before budget_after line
+IsNextLine told Last before after budget_before budget_after line = LastLine told before after budget_before budget_after line
+IsNextLine told End before after budget_before budget_after line = NoLine told before after
+IsNextLine told TooLong before after budget_before budget_after line = PastBudget told before after budget_before
 
 -- the source failed, and no newline was among the bytes that were taken and not handed out
 pub record Stopped (told : Type 0) (before left : Bytes) (budget_before : ℕ) : Type 0 where

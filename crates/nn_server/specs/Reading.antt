@@ -1,6 +1,7 @@
 -- How the bytes of a script become lines.
-use Rattle.std.specs.Prelude.{◌≡◌, ◌==◌, ℕ, Bool, true, false, [], ◌∷◌, take}
+use Rattle.std.specs.Prelude.{◌≡◌, ◌==◌, ◌+◌, ℕ, Bool, true, false, [], ◌∷◌, take}
 use Rattle.std.specs.List.{All}
+use Rattle.nn_base.specs.Limits.{most_line}
 use Rattle.nn_base.specs.Paths.{Bytes}
 use Rattle.nn_server.specs.declared.reader.Next.{Next}
 use Rattle.nn_server.specs.declared.reader.Next.TheVariants.{Last, End, TooLong}
@@ -9,9 +10,13 @@ use Rattle.nn_server.specs.declared.reader.Next.TheVariants.{Last, End, TooLong}
 abbrev pub IsUnended : Bytes → Type 0
 IsUnended bytes = All (λ byte. (byte == 10) ≡ false) bytes
 
--- what is kept of a line; a longer one is too long even without a carriage return at its end
+-- how many bytes are kept of a line: a longer one is too long even without a carriage return at its end
+abbrev pub most_kept : ℕ
+most_kept = most_line + 2
+
+-- what is kept of a line
 abbrev pub front_of : Bytes → Bytes
-front_of line = take 65537 line
+front_of line = take most_kept line
 
 -- what is behind the last newline, if that is anything
 abbrev pub kept_of : Bytes → Next

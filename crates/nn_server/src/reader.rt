@@ -5,7 +5,7 @@ ghost use Rattle.std.specs.List.{position};
 ghost use Rattle.std.specs.Str.Lines.{strip_carriage_return};
 ghost use Rattle.nn_base.specs.Limits.{most_piece, most_script};
 ghost use Rattle.nn_host.specs.Calls.{next_count};
-ghost use Rattle.nn_server.specs.Reading.{front_of, kept_of, past_of, IsBehind};
+ghost use Rattle.nn_server.specs.Reading.{most_kept, front_of, kept_of, past_of, IsBehind};
 
 use nn_base::NoMemory;
 use nn_base::limits::{MOST_LINE, MOST_PIECE, MOST_SCRIPT};
@@ -41,12 +41,12 @@ pub struct LineReader {
     ghost order: { at ≤ end },
     ghost within: { end ≤ vec_len chunk },
     ghost size: { vec_len chunk ≡ most_piece },
-    ghost front: { vec_len line ≤ 65537 },
-    ghost space: { 65537 ≤ vec_capacity line },
+    ghost front: { vec_len line ≤ most_kept },
+    ghost space: { most_kept ≤ vec_capacity line },
 }
 
 impl LineReader {
-    ghost use Rattle.nn_server.specs.Reader.{ahead, budget, IsNext, PartRead, HasRead, Refilled, Stopped};
+    ghost use Rattle.nn_server.specs.Reader.{ahead, budget, IsNextLine, PartRead, HasRead, Refilled, Stopped};
 
     /// A reader that has taken nothing. All the memory that it needs is taken here.
     pub fn new(alloc: Global) -> Result<LineReader, NoMemory>
@@ -74,7 +74,7 @@ impl LineReader {
 
     /// Reads the next line.
     pub fn next<S: Source>(&mut self, source: &mut S) -> Result<Next, Failed>
-        ensures ok { IfOk result (λ next. IsNext S.told next
+        ensures ok { IfOk result (λ next. IsNextLine S.told next
             (ahead self.old ++ S.left source.old) (ahead self.new ++ S.left source.new)
             (budget self.old) (budget self.new) self.new.line.items) }
         ensures spent { IfOk result (λ next. next ≡ Next.TooLong → ahead self.new ≡ []) }
@@ -206,11 +206,11 @@ fn newline_in(bytes: &[u8]) -> Option<usize>
 
 // Appends what is kept of a part of a line.
 fn keep(line: &mut Vec<u8>, part: &[u8])
-    requires front { vec_len line.old ≤ 65537 }
-    requires space { 65537 ≤ vec_capacity line.old }
+    requires front { vec_len line.old ≤ most_kept }
+    requires space { most_kept ≤ vec_capacity line.old }
     ensures line { line.new.items ≡ front_of (line.old.items ++ part.now) }
-    ensures front { vec_len line.new ≤ 65537 }
-    ensures space { 65537 ≤ vec_capacity line.new }
+    ensures front { vec_len line.new ≤ most_kept }
+    ensures space { most_kept ≤ vec_capacity line.new }
 {
     let room = KEPT.saturating_sub(line.len());
     let most = room.min(part.len());

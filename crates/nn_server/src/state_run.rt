@@ -11,7 +11,7 @@ ghost use Rattle.nn_server.specs.States.{StateRan, state_status, found};
 use crate::Status;
 use nn_base::{DirNo, NoMemory};
 use nn_host::{Failed, Host};
-use nn_pick::{Refusal, first_of, unusable};
+use nn_pick::{Refusal, earlier, unusable};
 use nn_state::{StorageState, Why, look, table};
 use std::alloc::Global;
 
@@ -63,7 +63,7 @@ pub fn state<H: Host>(alloc: Global, host: &mut H) -> StateEnd
             Err(NoMemory) => return StateEnd::Memory,
         };
         match say_line(host, line.as_bytes()) {
-            Ok(()) => first = first_of(first, unusable(DirNo(i), found)),
+            Ok(()) => first = earlier(first, unusable(DirNo(i), found)),
             Err(Failed) => return StateEnd::OutFault,
         }
     }

@@ -11,13 +11,13 @@ use Rattle.nn_script.specs.declared.command.ScriptCommand.TheVariants as command
 use Rattle.nn_script.specs.declared.syntax.Syntax.{Syntax}
 use Rattle.nn_script.specs.declared.syntax.Syntax.TheVariants as syntax
 use Rattle.nn_script.specs.Reading.{reading_of}
-use Rattle.nn_script.specs.Spelling.{answer_text}
+use Rattle.nn_script.specs.Spelling.{answer_text, max_answer}
 use Rattle.nn_script.specs.Answers.{State, change_text, reply_by}
 use Rattle.nn_server.proofs.SayingLemmas.{pieces_one, pieces_none, pieces_within, concat_pieces, cut_front}
 use Rattle.nn_server.proofs.DryLemmas.{concat_to}
 use Rattle.nn_server.proofs.laws.answers_go_out_in_pieces.Goals as goal
 
-refused : (why : OpRefusal) → length (answer_text (Refused why)) ≤ 24
+refused : (why : OpRefusal) → length (answer_text (Refused why)) ≤ max_answer
 refused refusal.Exists = omega arith
 refused refusal.NotFound = omega arith
 refused refusal.NotDir = omega arith
@@ -29,7 +29,7 @@ refused refusal.Quota = omega arith
 refused refusal.Limit = omega arith
 refused refusal.Memory = omega arith
 
-no_path : (fault : PathFault) → length (answer_text (Unread (syntax.Path fault))) ≤ 24
+no_path : (fault : PathFault) → length (answer_text (Unread (syntax.Path fault))) ≤ max_answer
 no_path path.Empty = omega arith
 no_path path.Relative = omega arith
 no_path path.LongPath = omega arith
@@ -38,7 +38,7 @@ no_path path.LongName = omega arith
 no_path path.Deep = omega arith
 no_path path.Memory = omega arith
 
-unread : (fault : Syntax) → length (answer_text (Unread fault)) ≤ 24
+unread : (fault : Syntax) → length (answer_text (Unread fault)) ≤ max_answer
 unread syntax.Long = omega arith
 unread syntax.Byte = omega arith
 unread syntax.Words = omega arith
@@ -50,11 +50,11 @@ unread syntax.Name = omega arith
 unread (syntax.Path fault) = no_path fault
 unread syntax.Memory = omega arith
 
-change : (why : Option OpRefusal) → length (change_text why) ≤ 24
+change : (why : Option OpRefusal) → length (change_text why) ≤ max_answer
 change None = omega arith
 change (Some why) = refused why
 
-short : (s : State) (read : Result (Option ScriptCommand) Syntax) → ((path : Names) → read ≢ Ok (Some (command.List path))) → length (reply_by s read).text ≤ 24
+short : (s : State) (read : Result (Option ScriptCommand) Syntax) → ((path : Names) → read ≢ Ok (Some (command.List path))) → length (reply_by s read).text ≤ max_answer
 short s (Ok None) other = omega arith
 short s (Ok (Some (command.Namespace asked))) other = change (step s.namespace asked s.now).refusal
 short s (Ok (Some (command.Clock time))) other = omega arith

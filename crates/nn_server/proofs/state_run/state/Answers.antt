@@ -1,4 +1,4 @@
-use Rattle.std.proofs.Common.{◌≡◌, length, sym, ◌∙◌, ap, subst, arith, ◌≤◌, List, ℕ}
+use Rattle.std.proofs.Common.{length, sym, ◌∙◌, ap, subst, arith, ◌≤◌, List, ℕ}
 use Rattle.nn_host.specs.Calls.{most_said}
 use Rattle.nn_pick.specs.Refused.{or_else}
 use Rattle.nn_server.proofs.ShortLemmas.{state_line_short}
@@ -22,7 +22,7 @@ returns-in-Err-say_line g c =
 pub loop-i-preserved : goal.loop-i-preserved
 loop-i-preserved g c =
     so_far_more _ c.in-Ok.found c.loop-i.invariant c.in-Ok.ensures.kept c.in-Ok.ensures.asked c.in-Ok-say_line.ensures (λ tells. c.in-Ok.ensures.ok tells)
-    (c.as_bytes.ensures.value ∙ c.in-Ok-line_of.ensures) (c.first_of-first.ensures ∙ ap (or_else c.loop-i.first) c.unusable.ensures)
+    (c.as_bytes.ensures.value ∙ c.in-Ok-line_of.ensures) (c.earlier-first.ensures ∙ ap (or_else c.loop-i.first) c.unusable.ensures)
 
 pub returns-in-Some : goal.returns-in-Some
 returns-in-Some g c = one_refuses c.in-Some.refusal c.loop-i.invariant (omega (arith, c.count-i-end.ensures.count, c.loop-i.auto.i-end, c.loop-i-test.false)) c.in-Some.is

@@ -1,6 +1,6 @@
 use Rattle.std.proofs.Common.{ℕ, ◌++◌, length, ap, sym, ◌∙◌, refl, subst, arith}
 use Rattle.nn_server.specs.declared.reader.Next.{Next}
-use Rattle.nn_server.specs.Reader.{ahead, budget, IsNext, Refilled}
+use Rattle.nn_server.specs.Reader.{ahead, budget, IsNextLine, Refilled}
 use Rattle.nn_server.proofs.ReaderLemmas.{has_read_more, has_read_on, ended_line, ended_as, last_line, past_room, stopped, on_err, never_past}
 use Rattle.nn_server.proofs.reader.LineReader.next.Goals as goal
 
@@ -17,7 +17,7 @@ pub returns-then-self-eq0-clause-ok : goal.returns-then-self-eq0-clause-ok
 returns-then-self-eq0-clause-ok g c =
     let read = has_read_more (g.S.Source.left c.parts.source) c.parts.self.room c.parts.invariant.read c.if-read_ahead.ensures.read in
     let line = c.read_ahead.new.self.line.items in
-    subst (λ (next : Next). IsNext g.S.Source.told next (ahead c.args.self.now ++ g.S.Source.left c.args.source.now) (ahead c.read_ahead.new.self ++ g.S.Source.left c.one_more.new.source) (budget c.args.self.now) (budget c.read_ahead.new.self) line) (sym c.past_room.ensures)
+    subst (λ (next : Next). IsNextLine g.S.Source.told next (ahead c.args.self.now ++ g.S.Source.left c.args.source.now) (ahead c.read_ahead.new.self ++ g.S.Source.left c.one_more.new.source) (budget c.args.self.now) (budget c.read_ahead.new.self) line) (sym c.past_room.ensures)
     (past_room (g.S.Source.left c.parts.source) (g.S.Source.left c.one_more.new.source) c.in_ok-more.more _ read (c.if-read_ahead.ensures.read.all refl) (omega (arith, c.if-self-eq0.true, c.if-read_ahead.ensures.room)) (omega (arith, c.if-read_ahead.ensures.room)) c.in_ok-more.ensures.ok)
 
 pub returns-in_err-more-clause-err : goal.returns-in_err-more-clause-err
@@ -37,7 +37,7 @@ returns-then-not-some-clause-ok g c =
     let on = has_read_on read (c.if-read_ahead.ensures.read.all refl) taken c.in_ok-some.ensures.line in
     let line = c.refill.new.self.line.items in
     let rest = ahead c.refill.new.self ++ g.S.Source.left c.refill.new.source in
-    subst (λ (next : Next). IsNext g.S.Source.told next (ahead c.args.self.now ++ g.S.Source.left c.args.source.now) rest (budget c.args.self.now) (budget c.refill.new.self) line) (sym c.last.ensures)
+    subst (λ (next : Next). IsNextLine g.S.Source.told next (ahead c.args.self.now ++ g.S.Source.left c.args.source.now) rest (budget c.args.self.now) (budget c.refill.new.self) line) (sym c.last.ensures)
     (last_line line on (λ tells. sym (taken.bytes tells) ∙ taken.none tells c.if-not-some.true))
 
 pub parts-preserved : goal.parts-preserved
