@@ -104,6 +104,7 @@ module _ {told : Type 0} {step : Step} {first : ℕ} {bytes : List ℕ} {live ho
 
   left_first : told → (m : Moment) → IsLeftAlone holding a b m → IsLeftAlone live a c m
   left_first tells m p = record {
+    grown = p.grown;
     others = λ j out. p.others j (not_live_front j out);
     failed = λ j rose. ⊎_elim
         (λ stays. absurd (omega (arith, rose, ap (λ (d : Dir). d.faults) (p.failed j rose), stays.faults)))
@@ -113,6 +114,7 @@ module _ {told : Type 0} {step : Step} {first : ℕ} {bytes : List ℕ} {live ho
 
   left_second : told → (m : Moment) → IsLeftAlone others b c m → IsLeftAlone live a c m
   left_second tells m p = record {
+    grown = λ j. omega (arith, p.grown j, (one.left.ends tells).grown j);
     others = λ j out. p.others j (not_live_back j out) ∙ (one.left.ends tells).others j (not_live_front j out);
     failed = λ j rose. ⊎_elim
         (λ stays. p.failed j (omega (arith, rose, stays.faults)))

@@ -83,7 +83,7 @@ module _ {told : Type 0} {step : Step} {first : ℕ} {bytes : List ℕ} {among l
     later = λ j le. refl;
     still = λ j le. refl;
     count = refl;
-    left = throughout_refl (λ tells. record { others = λ j out. refl; failed = λ j rose. refl });
+    left = throughout_refl (λ tells. record { grown = λ j. omega arith; others = λ j out. refl; failed = λ j rose. refl });
     quiet = unspoken_refl;
     calls = λ tells. omega arith;
   }
@@ -129,6 +129,7 @@ module _ {told : Type 0} {step : Step} {first : ℕ} {bytes : List ℕ} {among l
       -- what was left alone so far still is
       left_before : told → (m : Moment) → IsLeftAlone among a b m → IsLeftAlone among a c m
       left_before tells m p = record {
+        grown = p.grown;
         others = p.others;
         failed = λ j rose. elim (eqb_tells j k) [
           | inl is ↦ (let same : j ≡ k = is.1 in
@@ -137,8 +138,12 @@ module _ {told : Type 0} {step : Step} {first : ℕ} {bytes : List ℕ} {among l
         ];
       }
 
-      left_here : told → (m : Moment) → SameBut k b.now m × (faults_at b k < (m.dirs k).faults → m.dirs k ≡ c.now.dirs k) → IsLeftAlone among a c m
-      left_here tells m (same, failed) = record {
+      left_here : told → (m : Moment) → SameBut k b.now m → faults_at b k ≤ (m.dirs k).faults → (faults_at b k < (m.dirs k).faults → m.dirs k ≡ c.now.dirs k) → IsLeftAlone among a c m
+      left_here tells m same counted failed = record {
+        grown = λ j. elim (eqb_tells j k) [
+          | inl is ↦ subst (λ (x : ℕ). faults_at a x ≤ (m.dirs x).faults) (sym is.1) (omega (arith, counted, (so_far.left.ends tells).grown k))
+          | inr differs ↦ omega (arith, ap (λ (d : Dir). d.faults) (same.dirs j differs.1), (so_far.left.ends tells).grown j)
+        ];
         others = λ j out. same.dirs j (λ e. let apart = sym out ∙ ap (has among) e ∙ in_it in cc) ∙ (so_far.left.ends tells).others j out;
         failed = λ j rose. elim (eqb_tells j k) [
           | inl is ↦ subst (λ (x : ℕ). m.dirs x ≡ c.now.dirs x) (sym is.1) (failed (omega (arith, subst (λ (x : ℕ). faults_at a x < (m.dirs x).faults) is.1 rose, ap (λ (d : Dir). d.faults) (so_far.later k (omega arith)))))
@@ -147,7 +152,7 @@ module _ {told : Type 0} {step : Step} {first : ℕ} {bytes : List ℕ} {among l
       }
 
       walk_left : LeavesAlone told among a c
-      walk_left = throughout_trans (throughout_weaker so_far.left left_before) (throughout_weaker (throughout_both (throughout_work beside (λ tells m work. work.others)) fails) left_here)
+      walk_left = throughout_trans (throughout_weaker so_far.left left_before) (throughout_weaker (throughout_both (throughout_both (throughout_work beside (λ tells m work. work.others)) (throughout_work beside (λ tells m work. work.counted))) fails) (λ tells m is. left_here tells m is.0.0 is.0.1 is.1))
 
       walk_later : (j : ℕ) → k + 1 ≤ j → c.now.dirs j ≡ a.now.dirs j
       walk_later j le = others j (λ e. let same : j ≡ k = e in omega (arith, le, same)) ∙ so_far.later j (omega (arith, le))

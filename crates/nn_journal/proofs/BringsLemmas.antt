@@ -199,7 +199,7 @@ pub brings_lower : {told : Type 0} {p0 p1 : Place} {below : ℕ} {holders live0 
 brings_lower low same p version list from m start = come_lower low same (p version list from m start)
 
 pub went_refl : {told : Type 0} {live : Members} {a : State} → Went told live live a a
-went_refl = record { counted = λ j. inl (record { same_live = refl; faults = refl }); left = throughout_refl (λ tells. record { others = λ j out. refl; failed = λ j rose. refl }); quiet = unspoken_refl }
+went_refl = record { counted = λ j. inl (record { same_live = refl; faults = refl }); left = throughout_refl (λ tells. record { grown = λ j. omega arith; others = λ j out. refl; failed = λ j rose. refl }); quiet = unspoken_refl }
 
 -- one that isn't live stays so
 stays_out : {among old_live live : Members} {a b : State} → EachCounted among old_live live a b → (j : ℕ) → has old_live j ≡ false → has live j ≡ false
@@ -211,6 +211,7 @@ stays_out {live = live} counted j out = elim (cases_Bool (has live j)) [
 module _ {told : Type 0} {live0 live1 live2 : Members} {a b c : State} (one : Went told live0 live1 a b) (two : Went told live1 live2 b c) where
   left_first : told → (m : Moment) → IsLeftAlone live0 a b m → IsLeftAlone live0 a c m
   left_first tells m p = record {
+    grown = p.grown;
     others = p.others;
     failed = λ j rose. ⊎_elim
         (λ stays. absurd (omega (arith, rose, ap (λ (d : Dir). d.faults) (p.failed j rose), stays.faults)))
@@ -220,6 +221,7 @@ module _ {told : Type 0} {live0 live1 live2 : Members} {a b c : State} (one : We
 
   left_second : told → (m : Moment) → IsLeftAlone live1 b c m → IsLeftAlone live0 a c m
   left_second tells m p = record {
+    grown = λ j. omega (arith, p.grown j, (one.left.ends tells).grown j);
     others = λ j out. p.others j (stays_out one.counted j out) ∙ (one.left.ends tells).others j out;
     failed = λ j rose. ⊎_elim
         (λ stays. p.failed j (omega (arith, rose, stays.faults)))

@@ -44,8 +44,9 @@ AmongDone told step first bytes among live old new = (version : Version) (list :
 
 -- ---- a directory that failed is left alone
 
--- At a moment each directory that isn't one of these is as it was, and one in which a call has failed is as it is in the end.
+-- At a moment no count has fallen; each directory that isn't one of these is as it was, and one in which a call has failed is as it is in the end.
 pub record IsLeftAlone (among : Members) (old new : State) (m : Moment) : Type 0 where
+  pub grown : (j : ℕ) → faults_at old j ≤ (m.dirs j).faults
   pub others : (j : ℕ) → has among j ≡ false → m.dirs j ≡ old.now.dirs j
   pub failed : (j : ℕ) → faults_at old j < (m.dirs j).faults → m.dirs j ≡ new.now.dirs j
 
