@@ -6,7 +6,7 @@ use Rattle.nn_host.proofs.RunsLemmas.{throughout_trans, throughout_weaker}
 use Rattle.nn_state.specs.Table.{seven_of, table_of}
 use Rattle.nn_state.specs.Typed.{FitsFresh}
 use Rattle.nn_marks.specs.declared.version.Version.{Version}
-use Rattle.nn_remake.proofs.LeftLemmas.{seven_left}
+use Rattle.nn_state.proofs.LeftLemmas.{seven_left}
 use Rattle.nn_open.specs.Answers.{settled_disk, AllFresh, EachFreshOrNew, EachAsBefore}
 use Rattle.nn_open.proofs.StepLemmas.{seven_settled}
 

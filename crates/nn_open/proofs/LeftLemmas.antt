@@ -10,7 +10,8 @@ use Rattle.nn_state.specs.Typed.{FitsFresh}
 use Rattle.nn_marks.specs.declared.version.Version.{Version}
 use Rattle.nn_tree.specs.Namespace.{empty_namespace}
 pub use Rattle.nn_remake.proofs.LeftLemmas.{fresh_left}
-use Rattle.nn_remake.proofs.LeftLemmas.{seven_left, made_left}
+use Rattle.nn_state.proofs.LeftLemmas.{seven_left}
+use Rattle.nn_remake.proofs.LeftLemmas.{made_left}
 use Rattle.nn_open.specs.Formatted.{IsFormatted, ReadsFormatted, FreshOrNew, LeftFreshOrNew}
 use Rattle.nn_open.specs.Answers.{AllFresh, AllFormatted, EachFreshOrNew, StopsFreshOrOpen, first_unformattable}
 use Rattle.nn_open.proofs.OpeningLemmas.{formatted_opens, left_fresh_or_open, all_choices_open}

@@ -1,4 +1,3 @@
-pub mod TableLemmas
 pub mod StepLemmas
 pub mod CallLemmas
 pub mod SurveyLemmas

@@ -14,7 +14,7 @@ use nn_base::{DirNo, Sub, Txid};
 use nn_host::{Failed, Host};
 use nn_marks::Version;
 use nn_pick::OpenFault;
-use nn_remake::{MakeFault, make};
+use nn_remake::{MakeFault, clear_unformatted, make};
 use nn_state::Fresh;
 use nn_tree::Tree;
 use std::alloc::Global;
@@ -58,19 +58,7 @@ fn make_dir<H: Host, T: Tree>(
     ensures any_moment { OnlyAt H.told i.0 (H.state host.old) (H.state host.new) (FreshOrNew version.now) }
     ensures cause { IsCountedAt i.0 (H.state host.old) (H.state host.new) result }
 {
-    clear_dir(host, i)?;
+    clear_unformatted(host, i)?;
     make(alloc, host, Fresh { dir: i }, tree, Txid(0), version)?;
     Ok(())
-}
-
-// Takes away what a directory without VERSION may still have.
-fn clear_dir<H: Host>(host: &mut H, i: DirNo) -> Result<(), Failed>
-    requires below { i.0 < (H.state host.old).count }
-    requires fresh { H.told → FitsFresh (disk_at (H.state host.old) i.0) }
-    ensures ok { H.told → OnOk result (IsBare (disk_at (H.state host.new) i.0)) }
-    ensures any_moment { OnlyAt H.told i.0 (H.state host.old) (H.state host.new) FitsFresh }
-    ensures cause { IsCounted i.0 (H.state host.old) (H.state host.new) result }
-{
-    host.remove_sub(i, Sub::Current)?;
-    host.remove_sub(i, Sub::PreviousCheckpoint)
 }

@@ -69,36 +69,37 @@ module _ {told : Type 0} (i : ℕ) (a : State) (rest : told → IsAtRest (disk_a
 abbrev FreshOrOld : Disk → Disk → Type 0
 FreshOrOld old d = FitsFresh d ⊎ (d ≡ old)
 
-module _ {told : Type 0} {i : ℕ} {a b : State} (rest : told → IsAtRest (disk_at a i)) (none : told → (disk_at a i).has Previous ≡ false) where
-  pub unversioned_work : {T E : Type 0} {result : Result T E} → Called told i (RemoveFile Current Version) a b result → OnlyAt told i a b (FreshOrOld (disk_at a i))
-  unversioned_work called = work_once called (λ tells. inr refl) (λ tells part made. inl (subst FitsFresh (sym made) (unversioned (disk_at a i) (rest tells) (none tells))))
+module _ {told : Type 0} {i : ℕ} {a b : State} where
+  module _ (rest : told → IsAtRest (disk_at a i)) (none : told → (disk_at a i).has Previous ≡ false) where
+    pub unversioned_work : {T E : Type 0} {result : Result T E} → Called told i (RemoveFile Current Version) a b result → OnlyAt told i a b (FreshOrOld (disk_at a i))
+    unversioned_work called = work_once called (λ tells. inr refl) (λ tells part made. inl (subst FitsFresh (sym made) (unversioned (disk_at a i) (rest tells) (none tells))))
 
-  module _ {T E : Type 0} {v : T} (first : Called {E = E} told i (RemoveFile Current Version) a b (Ok v)) where
-    fresh_then : told → FitsFresh (disk_at b i)
-    fresh_then tells = subst FitsFresh (sym (first.effect tells).ok.disk) (unversioned (disk_at a i) (rest tells) (none tells))
+    pub unversioned_was : {T E : Type 0} (result : Result T E) → Called told i (RemoveFile Current Version) a b result → told → OnOk result (FitsFresh (disk_at b i))
+    unversioned_was {T} {E} result called tells = last result (called.effect tells).ok
+      where
+        last : (r : Result T E) → OnOk r (Done i (RemoveFile Current Version) a b) → OnOk r (FitsFresh (disk_at b i))
+        last (Err e) done = tt
+        last (Ok v) done = subst FitsFresh (sym done.disk) (unversioned (disk_at a i) (rest tells) (none tells))
 
-    fresh_run : {c : State} → OnlyAt told i b c FitsFresh → OnlyAt told i a c (FreshOrOld (disk_at a i))
-    fresh_run p = work_trans (unversioned_work first) (work_weaker p (λ tells d fresh. inl fresh))
+  pub unversioned_then : {c : State} → OnlyAt told i a b (FreshOrOld (disk_at a i)) → OnlyAt told i b c FitsFresh → OnlyAt told i a c (FreshOrOld (disk_at a i))
+  unversioned_then p q = work_trans p (work_weaker q (λ tells d fresh. inl fresh))
 
-    emptying : {U F : Type 0} {c : State} {result : Result U F} → Called told i (RemoveSub Current) b c result → OnlyAt told i b c FitsFresh
-    emptying called = work_once called fresh_then (λ tells part made. fresh_current (disk_at b i) part (fresh_then tells) made)
+-- ---- without VERSION
 
-    pub emptied_work : {U F : Type 0} {c : State} {result : Result U F} → Called told i (RemoveSub Current) b c result → OnlyAt told i a c (FreshOrOld (disk_at a i))
-    emptied_work called = fresh_run (emptying called)
+module _ {told : Type 0} {i : ℕ} {a b : State} (fresh : told → FitsFresh (disk_at a i)) where
+  pub emptying : {T E : Type 0} {result : Result T E} → Called told i (RemoveSub Current) a b result → OnlyAt told i a b FitsFresh
+  emptying called = work_once called fresh (λ tells part made. fresh_current (disk_at a i) part (fresh tells) made)
 
-    module _ {U F : Type 0} {w : U} {c : State} (second : Called {E = F} told i (RemoveSub Current) b c (Ok w)) where
-      pub bared_work : {V G : Type 0} {d : State} {result : Result V G} → Called told i (RemoveSub PreviousCheckpoint) c d result → OnlyAt told i a d (FreshOrOld (disk_at a i))
-      bared_work called = fresh_run (work_more (emptying second) called (λ tells fresh part made. fresh_checkpoint (disk_at c i) part fresh made))
+  module _ {T E : Type 0} {v : T} (first : Called {E = E} told i (RemoveSub Current) a b (Ok v)) where
+    pub emptied : {U F : Type 0} {c : State} {result : Result U F} → Called told i (RemoveSub PreviousCheckpoint) b c result → OnlyAt told i a c FitsFresh
+    emptied called = work_more (emptying first) called (λ tells now part made. fresh_checkpoint (disk_at b i) part now made)
 
-      pub was_bared : {V G : Type 0} {d : State} (result : Result V G) → Called told i (RemoveSub PreviousCheckpoint) c d result → told → OnOk result (IsBare (disk_at d i))
-      was_bared {V} {G} {d} result third tells = last result (third.effect tells).ok
-        where
-          last : (r : Result V G) → OnOk r (Done i (RemoveSub PreviousCheckpoint) c d) → OnOk r (IsBare (disk_at d i))
-          last (Err e) done = tt
-          last (Ok x) done = subst IsBare
-              (sym (done.disk
-              ∙ ap (λ (y : Disk). disk_after (RemoveSub PreviousCheckpoint) (c.reads i) y) ((second.effect tells).ok.disk ∙ ap (λ (y : Disk). disk_after (RemoveSub Current) (b.reads i) y) (first.effect tells).ok.disk)))
-              (bare (disk_at a i) (rest tells) (none tells))
+    pub was_bared : {U F : Type 0} {c : State} (result : Result U F) → Called told i (RemoveSub PreviousCheckpoint) b c result → told → OnOk result (IsBare (disk_at c i))
+    was_bared {U} {F} {c} result second tells = last result (second.effect tells).ok
+      where
+        last : (r : Result U F) → OnOk r (Done i (RemoveSub PreviousCheckpoint) b c) → OnOk r (IsBare (disk_at c i))
+        last (Err e) done = tt
+        last (Ok w) done = subst IsBare (sym (done.disk ∙ ap (λ (d : Disk). disk_after (RemoveSub PreviousCheckpoint) (b.reads i) d) (first.effect tells).ok.disk)) (bare (disk_at a i) (fresh tells))
 
 -- ---- both
 

@@ -165,21 +165,26 @@ module _ (old : Disk) (rest : IsAtRest old) (none : old.has Previous ≡ false) 
       let e = rest_seven old rest in
       ap table_of ((λ k. record (e k) { current = false; previous = none k })) ∙ table_fresh
 
-  pub bare : IsBare (with_sub (with_sub (with_file old Current Version None) Current false (λ _. None)) PreviousCheckpoint false (λ _. None))
-  bare = record { root = λ k. (rest_seven old rest k).root; subs = λ s. gone s }
-    where
-      gone : (s : Sub) → (with_sub (with_sub (with_file old Current Version None) Current false (λ _. None)) PreviousCheckpoint false (λ _. None)).has s ≡ false
-      gone Current = refl
-      gone Previous = none
-      gone PreviousTmp = λ k. (rest_seven old rest k).previous_tmp
-      gone RemovedTmp = λ k. (rest_seven old rest k).removed_tmp
-      gone FinalizedTmp = λ k. (rest_seven old rest k).finalized_tmp
-      gone LastCheckpointTmp = λ k. (rest_seven old rest k).last_checkpoint_tmp
-      gone PreviousCheckpoint = refl
-
+-- without VERSION a directory stays so while `current` is removed, and while `previous.checkpoint` is
 module _ (d part : Disk) (fresh : FitsFresh d) where
   pub fresh_current : PartOf Current d part → FitsFresh part
   fresh_current is = ap table_of (part_current is (λ k. (fresh_seven (seven_of d) fresh k).current)) ∙ fresh
 
   pub fresh_checkpoint : PartOf PreviousCheckpoint d part → FitsFresh part
   fresh_checkpoint is = ap table_of (part_checkpoint is) ∙ fresh
+
+-- the two removals leave no subfolder
+pub bare : (d : Disk) → FitsFresh d → IsBare (with_sub (with_sub d Current false (λ _. None)) PreviousCheckpoint false (λ _. None))
+bare d fresh = record { root = λ k. (seven k).root; subs = gone }
+  where
+    seven : seven_of d ≡ at_rest false false
+    seven = fresh_seven (seven_of d) fresh
+
+    gone : (s : Sub) → (with_sub (with_sub d Current false (λ _. None)) PreviousCheckpoint false (λ _. None)).has s ≡ false
+    gone Current = refl
+    gone Previous = λ k. (seven k).previous
+    gone PreviousTmp = λ k. (seven k).previous_tmp
+    gone RemovedTmp = λ k. (seven k).removed_tmp
+    gone FinalizedTmp = λ k. (seven k).finalized_tmp
+    gone LastCheckpointTmp = λ k. (seven k).last_checkpoint_tmp
+    gone PreviousCheckpoint = refl

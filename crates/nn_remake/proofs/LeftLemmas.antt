@@ -1,14 +1,14 @@
 -- What a stop leaves of a directory that isn't formatted or that was made, and the chain of the latter.
 use Rattle.std.proofs.Common.{◌≡◌, ◌≢◌, ℕ, List, Option, Some, None, inl, inr, ⊎_elim, refl, ◌∙◌, ap, subst, arith}
 use Rattle.std.specs.Fmt.{decimal}
-use Rattle.std.specs.Prelude.{is_some}
+use Rattle.std.specs.Prelude.{false}
 use Rattle.nn_base.specs.declared.sub.Sub.TheVariants.{Current, Previous}
 use Rattle.nn_base.specs.declared.file_name.FileName.{FileName}
 use Rattle.nn_base.specs.declared.file_name.FileName.TheVariants as name
 use Rattle.nn_base.specs.Names.{first_id}
 use Rattle.nn_host.specs.Disk.{Disk, Reads, File, Leaves, LeavesFile, certain}
 use Rattle.nn_host.proofs.CleanLemmas.{sure_left}
-use Rattle.nn_state.specs.Table.{seven_of, table_of}
+use Rattle.nn_state.specs.Table.{table_of}
 use Rattle.nn_state.specs.Typed.{FitsFresh, FitsReady}
 use Rattle.nn_marks.specs.declared.version.Version.{Version}
 use Rattle.nn_marks.specs.Seen.{seen_text_of}
@@ -22,20 +22,11 @@ use Rattle.nn_chain.specs.Chain.{HasNoSegment, HasNoLater}
 use Rattle.nn_chain.proofs.BareLemmas.{bare_chain}
 use Rattle.nn_remake.specs.Made.{JustCurrent, IsMade, ReadsMade, Serves, FreshOrMadeIsLeft}
 use Rattle.nn_chain.proofs.SameLemmas.{not_segment}
-use Rattle.nn_remake.proofs.TableLemmas.{new_table, seven_by}
+use Rattle.nn_state.proofs.TableLemmas.{table_at_rest}
+use Rattle.nn_state.proofs.LeftLemmas.{seven_left}
 use Rattle.nn_remake.proofs.MakingLemmas.{just_seven}
 
 -- ---- a directory that isn't formatted
-
--- a stop makes no file, and takes none away
-pub some_left : (f : Option File) (b : Option (List ℕ)) → LeavesFile f b → is_some b ≡ is_some f
-some_left None None l = refl
-some_left None (Some b) l = absurd l
-some_left (Some f) None l = absurd l
-some_left (Some f) (Some b) l = refl
-
-pub seven_left : (d : Disk) (c : Reads) → Leaves d c → seven_of c ≡ seven_of d
-seven_left d c leaves = seven_by d c leaves.root leaves.subs (some_left (d.file Current name.Version) (c.file Current name.Version) (leaves.files Current name.Version))
 
 pub fresh_left : (d : Disk) (c : Reads) → Leaves d c → FitsFresh d → FitsFresh c
 fresh_left d c leaves fresh = ap table_of (seven_left d c leaves) ∙ fresh
@@ -70,7 +61,7 @@ just_left {id} {version} {seen} {image} {digest} d c just leaves = record {
 pub made_left : (version : Version) (id : ℕ) (ns : Namespace) (d : Disk) (c : Reads) → IsMade version id ns d → Leaves d c → ReadsMade version id ns c
 made_left version id ns d c made leaves =
     let whole = just_left d c made.whole leaves in
-    record { normal = ap table_of (just_seven c whole) ∙ new_table; bytes = made.bytes; image = made.image; whole = whole }
+    record { normal = ap table_of (just_seven c whole) ∙ table_at_rest false; bytes = made.bytes; image = made.image; whole = whole }
 
 -- ---- a directory that reads as it was made
 

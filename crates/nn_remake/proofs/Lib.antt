@@ -1,7 +1,6 @@
 pub mod BesideLemmas
 pub mod StagingLemmas
 pub mod PublishingLemmas
-pub mod TableLemmas
 pub mod MakingLemmas
 pub mod LeftLemmas
 pub mod ChainLemmas

@@ -20,16 +20,16 @@ use Rattle.nn_marks.specs.declared.version.Version.{Version}
 use Rattle.nn_marks.specs.Seen.{seen_text_of}
 use Rattle.nn_marks.specs.VersionText.{version_text_of}
 use Rattle.nn_tree.specs.Namespace.{Namespace}
-use Rattle.nn_remake.proofs.TableLemmas.{fresh_seven, fresh_table, new_seven, new_table, seven_by}
+use Rattle.nn_state.proofs.TableLemmas.{at_rest, table_fresh, table_at_rest, seven_by}
 use Rattle.nn_remake.specs.Publishing.{Placed, IsImageUnder, digest_of, IsPublishing, WasWritten}
 use Rattle.nn_remake.specs.Made.{IsBare, JustCurrent, FreshOrMade, WasMade}
 
 -- ---- a directory without any subfolder
 
 pub bare_fresh : (d : Disk) → IsSound d → IsBare d → FitsFresh d
-bare_fresh d sound bare = ap table_of is ∙ fresh_table
+bare_fresh d sound bare = ap table_of is ∙ table_fresh
   where
-    is : seven_of d ≡ fresh_seven
+    is : seven_of d ≡ at_rest false false
     is = λ k. record {
       root = bare.root k;
       current = ap (λ (f : Option File). is_some f) (sound.files Current name.Version (bare.subs Current)) k;
@@ -43,7 +43,7 @@ bare_fresh d sound bare = ap table_of is ∙ fresh_table
 -- ---- a directory that has just `current`
 
 module _ {A : Type 0} {id : ℕ} {version seen image digest : Option A} (d : Held A) (just : JustCurrent id version seen image digest d) where
-  pub just_seven : seven_of d ≡ record new_seven { current = is_some version }
+  pub just_seven : seven_of d ≡ at_rest (is_some version) false
   just_seven = λ k. record {
     root = just.root k;
     current = is_some (just.version_file k);
@@ -126,29 +126,29 @@ just_placed {id = id} d e just p = record {
 
 -- there is no VERSION, and nothing else by which a state is told
 abbrev pub LacksVersion : Disk → Type 0
-LacksVersion d = seven_of d ≡ fresh_seven
+LacksVersion d = seven_of d ≡ at_rest false false
 
 pub just_lacks : {id : ℕ} {seen image digest : Option File} (d : Disk) → JustCurrent id None seen image digest d → LacksVersion d
 just_lacks d just = just_seven d just
 
 just_fresh : {id : ℕ} {seen image digest : Option File} (d : Disk) → JustCurrent id None seen image digest d → FitsFresh d
-just_fresh d just = ap table_of (just_seven d just) ∙ fresh_table
+just_fresh d just = ap table_of (just_seven d just) ∙ table_fresh
 
 -- while the image is written there is no VERSION
 fresh_publishing : (version : Version) (id : ℕ) (ns : Namespace) (d part : Disk) → LacksVersion d → IsPublishing version id ns d part → FitsFresh part
 fresh_publishing version id ns d part lacks p =
-    ap table_of (seven_by d part p.beside.root p.beside.subs (ap (λ (f : Option File). is_some f) (p.beside.other_files name.Version (λ x. cc) (λ x. cc) (λ x. cc) (λ x. cc))) ∙ lacks) ∙ fresh_table
+    ap table_of (seven_by d part p.beside.root p.beside.subs (ap (λ (f : Option File). is_some f) (p.beside.other_files name.Version (λ x. cc) (λ x. cc) (λ x. cc) (λ x. cc))) ∙ lacks) ∙ table_fresh
 
 -- nor while seen_txid is
 fresh_seen : (bytes : List ℕ) (d part : Disk) → LacksVersion d → OldOrNew Current name.SeenTmp name.Seen bytes d part → FitsFresh part
 fresh_seen bytes d part lacks p =
-    ap table_of (seven_by d part p.root p.subs (ap (λ (f : Option File). is_some f) (p.other_files name.Version (λ x. cc) (λ x. cc))) ∙ lacks) ∙ fresh_table
+    ap table_of (seven_by d part p.root p.subs (ap (λ (f : Option File). is_some f) (p.other_files name.Version (λ x. cc) (λ x. cc))) ∙ lacks) ∙ table_fresh
 
 -- while VERSION is written it isn't there, or all is
 made_version : (version : Version) (id : ℕ) (ns : Namespace) (bytes : List ℕ) (d part : Disk) → IsImageUnder version id ns bytes
     → JustCurrent id None (certain (Some (seen_text_of id))) (certain (Some bytes)) (certain (Some (digest_of id bytes))) d → OldOrNew Current name.VersionTmp name.Version (version_text_of version) d part → FreshOrMade version id ns part
 made_version version id ns bytes d part image just p = ⊎_elim
-    (λ old. inl (ap table_of (seven_by d part p.root p.subs (ap (λ (f : Option File). is_some f) old) ∙ just_seven d just) ∙ fresh_table))
+    (λ old. inl (ap table_of (seven_by d part p.root p.subs (ap (λ (f : Option File). is_some f) old) ∙ just_seven d just) ∙ table_fresh))
     (λ new.
     let whole : JustCurrent id (certain (Some (version_text_of version))) (certain (Some (seen_text_of id))) (certain (Some bytes)) (certain (Some (digest_of id bytes))) part = record {
       root = p.root ∙ just.root;
@@ -165,7 +165,7 @@ made_version version id ns bytes d part image just p = ⊎_elim
         | inr other ↦ p.other_files n other.1 w ∙ just.other_files n w x y z
       ];
     } in
-    inr (record { normal = ap table_of (just_seven part whole) ∙ new_table; bytes = bytes; image = image; whole = whole }))
+    inr (record { normal = ap table_of (just_seven part whole) ∙ table_at_rest false; bytes = bytes; image = image; whole = whole }))
     p.file
 
 -- ---- the calls
@@ -223,8 +223,8 @@ work_versioned {i = i} version id ns {b = b} same lacks p q = work_trans p (work
 
 pub was_made : {i : ℕ} {version : Version} {id : ℕ} {ns : Namespace} {a b : State} {text : List ℕ} → text ≡ version_text_of version → Unversioned version id ns i a → Written i Current name.VersionTmp name.Version text a b → WasMade version id ns i b
 was_made {i} {version} {id} {ns} {a} {b} {text} same u w = record {
-  disk = record { normal = ap table_of (just_seven (disk_at b i) on_disk) ∙ new_table; bytes = u.bytes; image = u.image; whole = on_disk };
-  reads = record { normal = ap table_of (just_seven (b.reads i) as_read) ∙ new_table; bytes = u.bytes; image = u.image; whole = as_read };
+  disk = record { normal = ap table_of (just_seven (disk_at b i) on_disk) ∙ table_at_rest false; bytes = u.bytes; image = u.image; whole = on_disk };
+  reads = record { normal = ap table_of (just_seven (b.reads i) as_read) ∙ table_at_rest false; bytes = u.bytes; image = u.image; whole = as_read };
 }
   where
     written : Written i Current name.VersionTmp name.Version (version_text_of version) a b

@@ -67,7 +67,30 @@ fn give_up_current<H: Host>(host: &mut H, i: DirNo) -> Result<(), Failed>
     ensures any_moment { OnlyAt H.told i.0 (H.state host.old) (H.state host.new) (λ d. FitsFresh d ⊎ (d ≡ disk_at (H.state host.old) i.0)) }
     ensures cause { IsCounted i.0 (H.state host.old) (H.state host.new) result }
 {
-    host.remove_file(i, Sub::Current, FileName::Version)?;
+    unformat(host, i)?;
+    clear_unformatted(host, i)
+}
+
+// VERSION alone makes a directory formatted.
+fn unformat<H: Host>(host: &mut H, i: DirNo) -> Result<(), Failed>
+    requires below { i.0 < (H.state host.old).count }
+    requires rest { H.told → IsAtRest (disk_at (H.state host.old) i.0) }
+    requires previous { H.told → (disk_at (H.state host.old) i.0).has Previous ≡ false }
+    ensures ok { H.told → OnOk result (FitsFresh (disk_at (H.state host.new) i.0)) }
+    ensures any_moment { OnlyAt H.told i.0 (H.state host.old) (H.state host.new) (λ d. FitsFresh d ⊎ (d ≡ disk_at (H.state host.old) i.0)) }
+    ensures cause { IsCounted i.0 (H.state host.old) (H.state host.new) result }
+{
+    host.remove_file(i, Sub::Current, FileName::Version)
+}
+
+/// Removes what a directory that isn't formatted may still have: a `current` without VERSION, and `previous.checkpoint`.
+pub fn clear_unformatted<H: Host>(host: &mut H, i: DirNo) -> Result<(), Failed>
+    requires below { i.0 < (H.state host.old).count }
+    requires fresh { H.told → FitsFresh (disk_at (H.state host.old) i.0) }
+    ensures ok { H.told → OnOk result (IsBare (disk_at (H.state host.new) i.0)) }
+    ensures any_moment { OnlyAt H.told i.0 (H.state host.old) (H.state host.new) FitsFresh }
+    ensures cause { IsCounted i.0 (H.state host.old) (H.state host.new) result }
+{
     host.remove_sub(i, Sub::Current)?;
     host.remove_sub(i, Sub::PreviousCheckpoint)
 }

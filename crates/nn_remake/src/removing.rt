@@ -11,6 +11,7 @@ use nn_host::{Failed, Host};
 use std::alloc::Global;
 
 /// Removes these files of `current`, the last one first.
+#[tactic(auto, using(crate::proofs::RemovingLemmas::removing_none))]
 pub fn remove_from_end<H: Host>(
     host: &mut H,
     i: DirNo,

@@ -28,8 +28,8 @@ use Rattle.nn_remake.specs.Removing.{is_segment, is_later_image}
 use Rattle.nn_remake.specs.Publishing.{IsWhole}
 use Rattle.nn_remake.specs.Topping.{KeptOrGivenUp, WasToppedUp}
 use Rattle.nn_remake.proofs.ClearingLemmas.{giving_keeps}
-use Rattle.nn_remake.proofs.LeftLemmas.{seven_left}
-use Rattle.nn_remake.proofs.TableLemmas.{seven_by}
+use Rattle.nn_state.proofs.LeftLemmas.{seven_left}
+use Rattle.nn_state.proofs.TableLemmas.{seven_by}
 use Rattle.nn_remake.proofs.ToppingLemmas.{given_normal, kept_asked, same_current}
 use Rattle.nn_kept.specs.Kept.{Shared}
 use Rattle.nn_kept.specs.Laws.{EachLeft}

@@ -21,7 +21,7 @@ use Rattle.std.specs.Prelude.{true, false, is_some}
 use Rattle.nn_chain.specs.Records.{first_in}
 use Rattle.nn_remake.specs.Removing.{is_segment}
 use Rattle.nn_remake.specs.Cutting.{IsCutting}
-use Rattle.nn_remake.proofs.LeftLemmas.{seven_left}
+use Rattle.nn_state.proofs.LeftLemmas.{seven_left}
 use Rattle.nn_kept.specs.Kept.{Shared, IsKept}
 use Rattle.nn_kept.specs.Laws.{IsOutranked}
 use Rattle.nn_steps.specs.Steps.{StaysBehind}

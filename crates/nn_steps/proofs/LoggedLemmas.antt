@@ -18,8 +18,8 @@ use Rattle.nn_chain.specs.Folder.{Folder, folder_at}
 use Rattle.nn_chain.proofs.SameLemmas.{none_after_bare}
 use Rattle.nn_segment_file.specs.Log.{Beside, IsOfLog, EndsWithin}
 use Rattle.nn_segment_file.proofs.BesideLemmas.{not_log}
-use Rattle.nn_remake.proofs.LeftLemmas.{seven_left}
-use Rattle.nn_remake.proofs.TableLemmas.{seven_by}
+use Rattle.nn_state.proofs.LeftLemmas.{seven_left}
+use Rattle.nn_state.proofs.TableLemmas.{seven_by}
 use Rattle.nn_pick.specs.Dirs.{ServesPrevious}
 use Rattle.nn_kept.specs.Ends.{EndsAt, HoldsThere}
 use Rattle.nn_steps.specs.Steps.{LoggingEnds}

@@ -17,7 +17,7 @@ use Rattle.nn_state.specs.Seat.{seat_by, seat_of, if_there, serving, saved}
 use Rattle.nn_state.specs.Typed.{IsIn}
 use Rattle.nn_chain.specs.Folder.{Folder, HasVersion, HasSeen, folder_at}
 use Rattle.nn_chain.specs.Chain.{Reached, IsChain, EndsBare}
-use Rattle.nn_remake.proofs.TableLemmas.{seven_by}
+use Rattle.nn_state.proofs.TableLemmas.{seven_by}
 use Rattle.nn_pick.specs.Dirs.{ServesCurrent, ServesPrevious, ServesUnder}
 use Rattle.nn_pick.proofs.VersionLemmas.{one_current}
 use Rattle.nn_kept.specs.Kept.{Shared, IsKept}

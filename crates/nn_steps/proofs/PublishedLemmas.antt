@@ -14,7 +14,7 @@ use Rattle.nn_chain.proofs.SameLemmas.{SameSegments, segments_back, holds_same}
 use Rattle.nn_remake.specs.Publishing.{BesideImage}
 use Rattle.nn_remake.specs.Rank.{KeepsRank}
 use Rattle.nn_remake.proofs.ChainLemmas.{same_segments}
-use Rattle.nn_remake.proofs.LeftLemmas.{seven_left}
+use Rattle.nn_state.proofs.LeftLemmas.{seven_left}
 use Rattle.nn_kept.specs.Ends.{EndsAt}
 use Rattle.nn_steps.specs.Steps.{PublishingEnds}
 use Rattle.nn_steps.proofs.NormalLemmas.{SameMarks, is_current, marks_end}

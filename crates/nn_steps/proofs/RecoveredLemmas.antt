@@ -1,15 +1,15 @@
 -- A directory whose seat stays goes on to be kept, and to end where it ended.
-use Rattle.std.proofs.Common.{List, refl, ◌≡◌, inl, inr, ℕ, Option, None, sym, ◌∙◌, ap, subst}
+use Rattle.std.proofs.Common.{List, refl, ◌≡◌, inl, inr, ℕ, Option, Some, None, sym, ◌∙◌, ap, subst}
 use Rattle.std.specs.Prelude.{is_some, Contains}
 use Rattle.nn_base.specs.declared.file_name.FileName.TheVariants as name
-use Rattle.nn_host.specs.Disk.{Disk, Reads}
-use Rattle.nn_host.proofs.CleanLemmas.{reading}
+use Rattle.nn_host.specs.Disk.{Disk, Reads, File}
+use Rattle.nn_host.proofs.CleanLemmas.{whole, reading}
 use Rattle.nn_marks.specs.declared.version.Version.{Version}
 use Rattle.nn_state.specs.declared.state.Seven.{Seven}
 use Rattle.nn_state.specs.Seat.{serving, seat_of}
 use Rattle.nn_state.specs.Recovery.{SameSeat, HasServingVersion}
 use Rattle.nn_chain.specs.Folder.{Folder, HasVersion, folder_at}
-use Rattle.nn_remake.proofs.LeftLemmas.{seven_left, some_left}
+use Rattle.nn_state.proofs.LeftLemmas.{seven_left}
 use Rattle.nn_pick.specs.Dirs.{ServesCurrent, ServesUnder}
 use Rattle.nn_pick.proofs.HoldsLemmas.{serves_formatted}
 use Rattle.nn_pick.proofs.VersionLemmas.{one_current}
@@ -52,12 +52,16 @@ module _ (shared : Shared) (old new : Reads) (seat : HasSameSeat old new) where
 
 -- ---- its VERSION
 
+some_whole : (f : Option File) → is_some (whole f) ≡ is_some f
+some_whole None = refl
+some_whole (Some f) = refl
+
 -- the folder that serves has VERSION, as it has in one thing that a stop may leave
 version_there : (d : Disk) → ((folder : Folder) → ServesCurrent (reading d) folder → (v : Version) × HasVersion folder v) → HasServingVersion d
 version_there d says sub serves =
     let same = ap (λ (s : Seven). (seat_of s).current) (seven_left d (reading d) (reads_whole d)) in
     let it = says (folder_at (reading d) sub) (record { sub = sub; serves = same ∙ serves; is = refl }) in
-    sym (some_left (d.file sub name.Version) ((reading d).file sub name.Version) ((reads_whole d).files sub name.Version)) ∙ ap (λ (o : Option (List ℕ)). is_some o) it.1.1
+    sym (some_whole (d.file sub name.Version)) ∙ ap (λ (o : Option (List ℕ)). is_some o) it.1.1
 
 says_under : (c : Reads) (v : Version) (a folder : Folder) → ServesUnder c v a → ServesCurrent c folder → HasVersion folder v
 says_under c v a folder under serves = subst (λ (f : Folder). HasVersion f v) (one_current c a folder under.serves serves) under.says

@@ -22,7 +22,7 @@ use Rattle.nn_chain.specs.Folder.{Folder}
 use Rattle.nn_chain.specs.Records.{first_in}
 use Rattle.nn_chain.specs.Fair.{IsFair, IsFairFile}
 use Rattle.nn_chain.proofs.FairLemmas.{whole_is_fair}
-use Rattle.nn_remake.proofs.LeftLemmas.{seven_left}
+use Rattle.nn_state.proofs.LeftLemmas.{seven_left}
 use Rattle.nn_pick.specs.Dirs.{ServesCurrent, ServesPrevious}
 use Rattle.nn_kept.specs.Kept.{HasState}
 use Rattle.nn_kept.specs.Onward.{HasSameSeat}

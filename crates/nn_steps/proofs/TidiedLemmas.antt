@@ -18,7 +18,7 @@ use Rattle.nn_chain.specs.Images.{HasIntact, IsIntact, IsNewest}
 use Rattle.nn_chain.specs.Records.{IsWithin, HasNoRecord}
 use Rattle.nn_chain.specs.Chain.{Reached, after, Leads, IsChain, EndsBare}
 use Rattle.nn_chain.proofs.SameLemmas.{intact_same}
-use Rattle.nn_remake.proofs.LeftLemmas.{seven_left}
+use Rattle.nn_state.proofs.LeftLemmas.{seven_left}
 use Rattle.nn_kept.specs.Ends.{EndsAt}
 use Rattle.nn_steps.specs.Steps.{TidyingEnds}
 use Rattle.nn_steps.specs.Tidying.{IsEndedBy, IsTidying}

@@ -27,7 +27,7 @@ use Rattle.nn_chain.proofs.BareLemmas.{bare_chain}
 use Rattle.nn_chain.proofs.SameLemmas.{intact_same, not_segment}
 use Rattle.nn_remake.specs.Publishing.{BesideImage, IsPublishing, IsWhole, digest_of}
 use Rattle.nn_remake.specs.Removing.{is_segment, is_later_image}
-use Rattle.nn_remake.proofs.LeftLemmas.{seven_left}
+use Rattle.nn_state.proofs.LeftLemmas.{seven_left}
 use Rattle.nn_pick.specs.Dirs.{ServesPrevious, ServesUnder}
 use Rattle.nn_kept.specs.Kept.{Shared, IsKept, IsKeptUnder}
 use Rattle.nn_kept.specs.Laws.{IsOutranked}
@@ -35,7 +35,7 @@ use Rattle.nn_kept.specs.Ends.{EndsAt, EndsBetween, HoldsThere}
 use Rattle.nn_kept.proofs.GreatestLemmas.{kept_under}
 use Rattle.nn_kept.proofs.KeptOnwardLemmas.{version_there, seen_there, reached_by_floor}
 use Rattle.nn_kept.specs.Laws.{EachLeft}
-use Rattle.nn_remake.proofs.TableLemmas.{seven_by}
+use Rattle.nn_state.proofs.TableLemmas.{seven_by}
 use Rattle.nn_steps.specs.Steps.{StaysBehind}
 use Rattle.nn_steps.proofs.BesideLemmas.{LeftBeside, left_beside}
 use Rattle.nn_steps.proofs.NormalLemmas.{SameMarks, current_serves, normal_too, saved_same, previous_before, stays_outranked, stays_behind}

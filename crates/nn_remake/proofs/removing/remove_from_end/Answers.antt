@@ -1,10 +1,7 @@
 use Rattle.std.proofs.Common.{◌≡◌, length, rules}
 use Rattle.std.proofs.lemmas.List.{nil_from_length}
-use Rattle.nn_remake.proofs.RemovingLemmas.{removing_none, removing_run, removing_more, removed_all}
+use Rattle.nn_remake.proofs.RemovingLemmas.{removing_run, removing_more, removed_all}
 use Rattle.nn_remake.proofs.removing.remove_from_end.Goals as goal
-
-pub names-init : goal.names-init
-names-init g c = removing_none c.args.names.items c.args.i.0 (g.H.Host.state c.args.host.now)
 
 pub names-preserved : goal.names-preserved
 names-preserved g c = removing_more c.pop.new.self.items c.in-Some.name c.names.invariant c.in-Some.ensures.items c.in_ok-remove_file.ensures
