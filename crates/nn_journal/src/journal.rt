@@ -151,6 +151,7 @@ impl JournalSet {
         requires fit { IsFit self.old }
         requires ids { self.old.last + 64 < 2 ^ 63 }
         ensures brought { BringsLoggedAhead H.told self.old.buffer.items (place_of self.old) (place_of self.new) self.old.holders self.old.live self.new.live (H.state host.old) (H.state host.new) }
+        ensures onward { self.old.last ≤ self.new.last }
         ensures idle { self.old.buffer.items ≡ [] → (H.state host.new ≡ H.state host.old) × (place_of self.new ≡ place_of self.old) × (self.new.live ≡ self.old.live) }
         ensures stays { self.new.live ≡ self.old.live → self.old.size + vec_len self.old.buffer ≤ full_segment → (self.new.last ≡ self.old.last) × (self.new.first ≡ self.old.first) × (self.new.size ≡ self.old.size + vec_len self.old.buffer) }
         ensures ended { (self.new.live ≢ self.old.live) ⊎ (full_segment < self.old.size + vec_len self.old.buffer) → FinalizesLogged H.told self.old.buffer.items (place_of self.old) self.old.live self.new.live (H.state host.old) (H.state host.new) }
