@@ -11,3 +11,4 @@ pub mod RemovingLemmas
 pub mod CuttingLemmas
 pub mod CuttingCallLemmas
 pub mod ToppingLemmas
+pub mod TidyingLemmas

@@ -1,10 +1,10 @@
 -- What each durable step on a directory keeps: from what it says of the one disk at each moment to what a run keeps of that disk.
-use Rattle.std.specs.Prelude.{◌≡◌, ◌≢◌, ◌⊎◌, None, ℕ, ◌<◌, ◌≤◌, ◌^◌, Bool, false, Option, is_some, Some, true, if◌then◌else◌}
+use Rattle.std.specs.Prelude.{◌≡◌, ◌≢◌, ◌⊎◌, None, ℕ, ℤ, ◌<◌, ◌≤◌, ◌^◌, Bool, false, Option, is_some, Some, true, if◌then◌else◌}
 use Rattle.nn_base.specs.Limits.{program_layout}
 use Rattle.nn_base.specs.declared.sub.Sub.{Sub}
 use Rattle.nn_base.specs.declared.file_name.FileName.{FileName}
 use Rattle.nn_base.specs.declared.sub.Sub.TheVariants.{Current}
-use Rattle.nn_host.specs.Disk.{Disk, Reads, Leaves, Settle, certain, disk_after}
+use Rattle.nn_host.specs.Disk.{Disk, Reads, Leaves, Settle, IsSound, certain, disk_after}
 use Rattle.nn_host.specs.Moments.{State, disk_at}
 use Rattle.nn_marks.specs.declared.version.Version.{Version}
 use Rattle.nn_state.specs.declared.state.StorageState.TheVariants.{Normal}
@@ -12,18 +12,19 @@ use Rattle.nn_state.specs.Seat.{serving, saved}
 use Rattle.nn_state.specs.Typed.{IsIn, FitsFresh}
 use Rattle.nn_state.specs.Recovery.{KeepsSeat, WasRecovered}
 use Rattle.nn_tree.specs.Namespace.{Namespace}
-use Rattle.nn_chain.specs.Folder.{HasVersion, folder_at}
+use Rattle.nn_chain.specs.Folder.{Folder, HasVersion, folder_at}
 use Rattle.nn_chain.specs.Images.{IsIntact}
+use Rattle.nn_segment_file.specs.Log.{Rests}
 use Rattle.nn_segment_file.specs.Steps.{Logged}
 use Rattle.nn_remake.specs.Clearing.{IsAtRest, IsGivingUp, IsClearing}
 use Rattle.nn_remake.specs.Made.{IsMade, FreshOrMade}
 use Rattle.nn_remake.specs.Published.{IsPublished, IsOnlyOf}
 use Rattle.nn_remake.specs.Topping.{IsToppingUp, WasToppedUp}
 use Rattle.nn_remake.specs.Rank.{IsRanked}
+use Rattle.nn_remake.specs.Tidying.{IsTidying, WasTidied}
 use Rattle.nn_kept.specs.Kept.{Shared, IsKept}
 use Rattle.nn_kept.specs.Laws.{IsOutranked, EachLeft, IsKeptDisk}
 use Rattle.nn_kept.specs.Ends.{EndsAt, EndsBetween, HasRoom}
-use Rattle.nn_steps.specs.Tidying.{IsTidying}
 
 -- ---- a directory that isn't formatted, or is being made
 
@@ -134,13 +135,26 @@ PublishingEnds = (version : Version) (has : Bool) (what : Option Namespace) (lis
 abbrev pub PublishedIsIntact : Type 0
 PublishedIsIntact = (version : Version) (id : ℕ) (ns : Namespace) (i : ℕ) (old new : State) → IsSure Current i old → IsOnlyOf version id ns i old → IsPublished version id ns i old new → EachLeft (disk_at new i) (λ c. IsIntact (folder_at c Current) version id ns)
 
+-- Its files are certain then, if they were.
+abbrev pub PublishedIsSure : Type 0
+PublishedIsSure = (version : Version) (id : ℕ) (ns : Namespace) (i : ℕ) (old new : State) → IsSure Current i old → IsPublished version id ns i old new → IsSure Current i new
+
 -- ---- a directory that is tidied
 
 -- Beside an intact image at which its chain ends, at each moment of its tidying it goes on to end there, and the image stays.
 abbrev pub TidyingEnds : Type 0
-TidyingEnds = (version : Version) (has : Bool) (what : Option Namespace) (list : ℕ → Namespace) (id : ℕ) (old d : Disk) → IsIn Normal old → EndsBetween version has what list id id old
-    → EachLeft old (λ c. IsIntact (folder_at c Current) version id (list id)) → IsTidying id old d
+TidyingEnds = (folder : Folder) (version : Version) (has : Bool) (what : Option Namespace) (list : ℕ → Namespace) (id : ℕ) (old d : Disk) → IsIn Normal old → EndsBetween version has what list id id old
+    → EachLeft old (λ c. IsIntact (folder_at c Current) version id (list id)) → IsTidying folder version.layout id old d
     → EachLeft d (λ c. ((n : ℕ) × (id ≤ n) × (n ≤ id) × EndsAt c version has what (record { last = n; ns = list n })) × IsIntact (folder_at c Current) version id (list id))
+
+-- Once it is tidied its files are certain, if they were.
+abbrev pub TidiedIsSure : Type 0
+TidiedIsSure = (layout : ℤ) (id i : ℕ) (old new : State) → IsSure Current i old → WasTidied layout id i old new → IsSure Current i new
+
+-- And it rests there: a segment can be begun behind it.
+abbrev pub TidiedRests : Type 0
+TidiedRests = (version : Version) (has : Bool) (what : Option Namespace) (list : ℕ → Namespace) (id i : ℕ) (old new : State) → IsSound (disk_at old i) → IsIn Normal (disk_at old i) → EndsBetween version has what list id id (disk_at old i)
+    → EachLeft (disk_at old i) (λ c. IsIntact (folder_at c Current) version id (list id)) → IsSure Current i old → WasTidied version.layout id i old new → Rests version list id (disk_at new i)
 
 -- ---- a directory whose segments are written to
 

@@ -1,6 +1,6 @@
 // What follows from the contracts of the steps on one directory, for the calls that compose them: no call does anything here.
 ghost use Rattle.nn_steps.specs.NotRaised.{ToppingUpIsNotRaised};
-ghost use Rattle.nn_steps.specs.Steps.{FreshIsKept, MakingKeeps, MadeEnds, SettledEnds, SettledStaysBehind, RecoveredIsSure, RecoveringKeeps, RecoveringLeavesBehind, RecoveringEnds, ClearingKeeps, GivingUpKeeps, ToppingUpKeeps, ToppedUpEnds, GivingUpEnds, TidyingEnds, LoggingEnds, PublishingEnds, PublishedIsIntact};
+ghost use Rattle.nn_steps.specs.Steps.{FreshIsKept, MakingKeeps, MadeEnds, SettledEnds, SettledStaysBehind, RecoveredIsSure, RecoveringKeeps, RecoveringLeavesBehind, RecoveringEnds, ClearingKeeps, GivingUpKeeps, ToppingUpKeeps, ToppedUpEnds, GivingUpEnds, TidyingEnds, TidiedIsSure, TidiedRests, LoggingEnds, PublishingEnds, PublishedIsIntact, PublishedIsSure};
 
 /// A directory that isn't formatted is kept.
 pub fn a_directory_not_formatted_is_kept()
@@ -89,6 +89,16 @@ pub fn a_directory_in_tidying_ends()
     ensures { TidyingEnds }
 {}
 
+/// What is certain in `current` stays so where files are tidied away.
+pub fn a_tidied_directory_is_certain()
+    ensures { TidiedIsSure }
+{}
+
+/// A directory that was tidied rests at the image: no segment begins later, and none has a later record.
+pub fn a_tidied_directory_rests()
+    ensures { TidiedRests }
+{}
+
 /// A directory ends at one of the ids in flight at each moment at which its segments are written to.
 pub fn a_directory_written_to_ends()
     ensures { LoggingEnds }
@@ -97,4 +107,9 @@ pub fn a_directory_written_to_ends()
 /// An image that was published into a `current` that is certain is intact after every fair stop.
 pub fn a_published_image_is_intact()
     ensures { PublishedIsIntact }
+{}
+
+/// What is certain in `current` stays so where an image is published into it.
+pub fn a_directory_published_into_is_certain()
+    ensures { PublishedIsSure }
 {}
