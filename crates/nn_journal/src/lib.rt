@@ -6,6 +6,8 @@
 mod among;
 mod journal;
 pub mod laws;
+mod opened;
 mod rounds;
 
 pub use journal::{JournalSet, NoneLeft};
+pub use opened::Opened;
