@@ -1,0 +1,6 @@
+pub mod RunLemmas
+pub mod FateLemmas
+pub mod PlanLemmas
+pub mod StepLemmas
+pub mod TidyLemmas
+pub mod CallLemmas
