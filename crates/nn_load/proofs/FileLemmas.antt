@@ -51,7 +51,7 @@ module _ (folder : Folder) (layout : ℤ) (name : FileName) (first until : ℕ) 
       has.1,
     )
 
-    in_run : (r : Record) → HoldsRecord folder layout name r → Contains run r
+    pub in_run : (r : Record) → HoldsRecord folder layout name r → Contains run r
     in_run r h =
         let first_is : h.first ≡ first = same_Some h.first first (sym h.begins ∙ part.begins) in
         let bytes_are : h.bytes ≡ bytes = same_Some h.bytes bytes (sym h.there ∙ there) in

@@ -20,7 +20,7 @@ use Rattle.nn_chain.specs.Chain.{Reached, after, Leads, IsEnd}
 use Rattle.nn_chain.proofs.RecordLemmas.{one_record}
 use Rattle.nn_load.specs.Replaying.{Plays, UpTo, AreReplayed}
 use Rattle.nn_load.specs.Segments.{IsSpent}
-use Rattle.nn_load.specs.Queue.{StandsAt, IsNextFinalized, IsNextInProgress, HasNoInProgress, HasGap, ComesFirst, AreLeft}
+use Rattle.nn_load.specs.Queue.{StandsAt, EndBy, IsNextFinalized, NoneInProgress, IsNextInProgress, HasNoInProgress, HasGap, ComesFirst, AreLeft}
 use Rattle.nn_load.proofs.OrderLemmas.{finalized_ascend, in_progress_ascend, finalized_first, not_behind, in_order}
 use Rattle.nn_load.proofs.ReplayLemmas.{plays_weaker}
 
@@ -167,7 +167,7 @@ module _ (reads : Reads) (sub : Sub) (layout : ℤ) (names : List FileName) (lis
 
 -- ---- a file that was replayed
 
-plays_on : (P : Record → Type 0) (at end : Reached) (rs : List Record) → Plays P at rs end → at.last ≤ end.last
+pub plays_on : (P : Record → Type 0) (at end : Reached) (rs : List Record) → Plays P at rs end → at.last ≤ end.last
 plays_on P at end [] p = omega (arith, ap (λ (x : Reached). x.last) p)
 plays_on P at end (r ∷ rs) p = omega (arith, p.1, plays_on P (after r at) end rs p.3)
 
@@ -192,7 +192,7 @@ module _ (folder : Folder) (layout : ℤ) (name : FileName) (until : ℕ) (start
 
 -- ---- what is left after it
 
-left_later : (folder : Folder) (layout : ℤ) (names : List FileName) (finalized in_progress last then : ℕ) → last ≤ then → AreLeft folder layout names finalized in_progress last → AreLeft folder layout names finalized in_progress then
+pub left_later : (folder : Folder) (layout : ℤ) (names : List FileName) (finalized in_progress last then : ℕ) → last ≤ then → AreLeft folder layout names finalized in_progress last → AreLeft folder layout names finalized in_progress then
 left_later folder layout names finalized in_progress last then le left = record {
   finalized_spent = λ j span lt at. spent_later folder layout (Edits span) last then le (left.finalized_spent j span lt at);
   in_progress_spent = λ j first lt at. spent_later folder layout (InProgress first) last then le (left.in_progress_spent j first lt at);
@@ -221,31 +221,37 @@ module _ (folder : Folder) (layout : ℤ) (names : List FileName) (finalized in_
         ]
       ]
 
-  -- a segment in progress that wasn't read to its end
-  pub in_progress_waits : (first until : ℕ) → IsNextInProgress names in_progress k first → AreReplayed (HoldsRecord folder layout (InProgress first)) until start end true → AreLeft folder layout names finalized k end.last
-  in_progress_waits first until next done = record { finalized_spent = before.finalized_spent; in_progress_spent = spent }
+-- a file of which each record came
+pub all_spent : (folder : Folder) (layout : ℤ) (name : FileName) (until : ℕ) (start end : Reached) → AreReplayed (HoldsRecord folder layout name) until start end true → end.last < until → IsSpent folder layout end.last name
+all_spent folder layout name until start end done short r above h = ⊎_elim (λ low. omega (arith, low r h, above)) (λ full. omega (arith, full, short)) (done.all refl)
+
+module _ (folder : Folder) (layout : ℤ) (names : List FileName) (finalized in_progress last : ℕ) (left : AreLeft folder layout names finalized in_progress last) where
+  -- the finalized segments before the next one
+  pub finalized_passed : (k : ℕ) → EndBy names finalized k last → AreLeft folder layout names k in_progress last
+  finalized_passed k ends = record {
+    finalized_spent = λ j span lt at. elim (cases_lt j finalized) [ inl passed ↦ left.finalized_spent j span passed at | inr later ↦ ended_spent folder layout span last (ends j span later lt at) ];
+    in_progress_spent = left.in_progress_spent;
+  }
+
+  -- and what stands before the next in progress
+  pub in_progress_passed : (k : ℕ) → NoneInProgress names in_progress k → AreLeft folder layout names finalized k last
+  in_progress_passed k none = record {
+    finalized_spent = left.finalized_spent;
+    in_progress_spent = λ j first lt at. elim (cases_lt j in_progress) [ inl passed ↦ left.in_progress_spent j first passed at | inr later ↦ absurd (none j first later lt at) ];
+  }
+
+  -- the first in progress, of which each record came
+  pub in_progress_left : (first then : ℕ) → last ≤ then → StandsAt names in_progress (InProgress first) → IsSpent folder layout then (InProgress first) → AreLeft folder layout names finalized (in_progress + 1) then
+  in_progress_left first then le stands this = record { finalized_spent = before.finalized_spent; in_progress_spent = spent }
     where
-      before : AreLeft folder layout names finalized in_progress end.last
-      before = left_later folder layout names finalized in_progress start.last end.last (plays_on (UpTo (HoldsRecord folder layout (InProgress first)) until) start end done.records done.plays) left
+      before : AreLeft folder layout names finalized in_progress then
+      before = left_later folder layout names finalized in_progress last then le left
 
-      spent : (j o : ℕ) → j < k → StandsAt names j (InProgress o) → IsSpent folder layout end.last (InProgress o)
-      spent j o lt at = elim (cases_lt j in_progress) [ inl passed ↦ before.in_progress_spent j o passed at | inr later ↦ absurd (next.before j o later lt at) ]
-
-  -- and one of which each record came
-  pub in_progress_left : (first until : ℕ) → IsNextInProgress names in_progress k first → AreReplayed (HoldsRecord folder layout (InProgress first)) until start end true → end.last < until → AreLeft folder layout names finalized (k + 1) end.last
-  in_progress_left first until next done short = record { finalized_spent = before.finalized_spent; in_progress_spent = spent }
-    where
-      before : AreLeft folder layout names finalized k end.last
-      before = in_progress_waits first until next done
-
-      this : IsSpent folder layout end.last (InProgress first)
-      this r above h = ⊎_elim (λ low. omega (arith, low r h, above)) (λ full. omega (arith, full, short)) (done.all refl)
-
-      spent : (j o : ℕ) → j < k + 1 → StandsAt names j (InProgress o) → IsSpent folder layout end.last (InProgress o)
-      spent j o lt at = elim (cases_lt j k) [
+      spent : (j o : ℕ) → j < in_progress + 1 → StandsAt names j (InProgress o) → IsSpent folder layout then (InProgress o)
+      spent j o lt at = elim (cases_lt j in_progress) [
         | inl earlier ↦ before.in_progress_spent j o earlier at
         | inr later ↦
-            let same : j ≡ k = omega arith in
-            let one = one_at names k (InProgress o) (InProgress first) (subst (λ n. StandsAt names n (InProgress o)) same at) next.stands in
-            subst (IsSpent folder layout end.last) (sym one) this
+            let same : j ≡ in_progress = omega arith in
+            let one = one_at names in_progress (InProgress o) (InProgress first) (subst (λ n. StandsAt names n (InProgress o)) same at) stands in
+            subst (IsSpent folder layout then) (sym one) this
       ]

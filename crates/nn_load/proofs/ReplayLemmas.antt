@@ -68,7 +68,7 @@ front_of first (r ∷ rs) (q ∷ qs) rest after rs_from qs_from e few =
     (more.0, λ i. sym same.0 i ∷ more.1 i)
 
 -- all that stand at the front are among the longest
-in_whole : (bytes : List ℕ) (first : ℕ) (run : List Record) (r : Record) → IsWhole bytes first run → IsAtFront bytes first r → Contains run r
+pub in_whole : (bytes : List ℕ) (first : ℕ) (run : List Record) (r : Record) → IsWhole bytes first run → IsAtFront bytes first r → Contains run r
 in_whole bytes first run r whole front =
     let part = front_of first front.rs run front.begin.after whole.begin.after front.begin.ids whole.begin.ids (sym front.begin.text ∙ whole.begin.text) (whole.longest front.rs front.begin) in
     subst (λ (rs : List Record). Contains rs r) (sym part.1) (Contains-append_left front.rs part.0 r front.has)

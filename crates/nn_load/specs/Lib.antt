@@ -1,5 +1,6 @@
 pub mod Replaying
 pub mod Segments
+pub mod Held
 pub mod Queue
 pub mod Turns
 pub mod Newest

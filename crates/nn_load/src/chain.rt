@@ -1,5 +1,6 @@
 // The records of a folder, replayed over its image one file after the other.
-ghost use Rattle.std.specs.Prelude.{◌≡◌, ◌≢◌, ◌+◌, ◌<◌, ◌≤◌, ◌⊎◌, ◌^◌, List, IfOk, IfErr, true, false};
+ghost use Rattle.std.specs.Prelude.{◌≡◌, ◌+◌, ◌<◌, ◌≤◌, ◌⊎◌, ◌^◌, List, Some, None, IfOk, IfErr, true, false};
+ghost use Rattle.nn_host.specs.Disk.{Reads};
 ghost use Rattle.nn_host.specs.Listing.{IsListing};
 ghost use Rattle.nn_host.specs.Moments.{disk_at};
 ghost use Rattle.nn_host.specs.Runs.{OnlyAt, Looked};
@@ -8,12 +9,13 @@ ghost use Rattle.nn_tree.specs.Imaged.{IsImaged};
 ghost use Rattle.nn_chain.specs.Folder.{folder_at};
 ghost use Rattle.nn_chain.specs.Chain.{Leads, IsEnd};
 ghost use Rattle.nn_load.specs.Loading.{answered_chain};
+ghost use Rattle.nn_load.specs.Held.{IsOf};
 ghost use Rattle.nn_load.specs.Queue.{IsNextFinalized, IsNextInProgress, HasGap, AreLeft};
-ghost use Rattle.nn_load.specs.Turns.{IsTurn, IsFurther, IsInside};
+ghost use Rattle.nn_load.specs.Turns.{IsInside, IsHeldAt, IsWaiting, IsLeft, IsPlayed, GoesOn};
 
 use crate::ChainFault;
+use crate::held::{Held, hold};
 use crate::queue::{next_finalized, next_in_progress};
-use crate::replaying::Reach;
 use crate::segment::{Place, Segment, replay_file};
 use nn_base::{FileName, FirstTxid, Span, Txid};
 use nn_host::Host;
@@ -36,37 +38,46 @@ pub(crate) struct Left {
     ended: bool,
 }
 
+/// What is left, and the segment in progress that stands there, where it is held in memory.
+#[derive(Drop)]
+pub(crate) struct Waiting {
+    left: Left,
+    held: Option<Held>,
+}
+
 /// Replays all records of a listing that come after `id`, up to the first that is missing or doesn't fit; and the last id.
 ///
-/// Each file is read only while its first id isn't beyond the next one, and a finalized segment before any in progress.
-/// A segment in progress is read again only where a finalized one begins in its midst.
+/// Each file is read once, and only while its first id isn't beyond the next one; a finalized segment before any in
+/// progress. A segment in progress in whose midst a finalized one begins is held in memory meanwhile.
 pub(crate) fn replay_segments<H: Host, T: Tree>(
     alloc: Global,
     host: &mut H,
     place: &Place,
-    names: &[FileName],
     id: Txid,
     tree: &mut T,
 ) -> Result<Txid, ChainFault>
     requires below { place.now.dir.0 < (H.state host.old).count }
-    requires listed { H.told → IsListing ((H.state host.old).reads place.now.dir.0) place.now.sub names.now }
-    ensures ok { H.told → IfOk result (λ last. (records : List Record) × Leads (folder_at ((H.state host.old).reads place.now.dir.0) place.now.sub) place.now.layout (record { last = id; ns = T.meaning tree.old }) records (record { last = last; ns = T.meaning tree.new })
-        × IsEnd (folder_at ((H.state host.old).reads place.now.dir.0) place.now.sub) place.now.layout (record { last = last; ns = T.meaning tree.new })) }
+    requires listed { H.told → IsListing ((H.state host.old).reads place.now.dir.0) place.now.sub place.now.names.items }
+    ensures ok { H.told → IfOk result (λ last. (records : List Record) × Leads (folder_at ((H.state host.old).reads place.now.dir.0) place.now.sub) place.now.version.layout (record { last = id; ns = T.meaning tree.old }) records (record { last = last; ns = T.meaning tree.new })
+        × IsEnd (folder_at ((H.state host.old).reads place.now.dir.0) place.now.sub) place.now.version.layout (record { last = last; ns = T.meaning tree.new })) }
     ensures imaged { IsImaged (T.meaning tree.old) → IsImaged (T.meaning tree.new) }
     ensures cause { IfErr result (λ fault. (fault ≡ ChainFault.Failed) ⊎ (fault ≡ ChainFault.Memory)) }
     ensures kept { Looked H.told place.now.dir.0 (H.state host.old) (H.state host.new) (answered_chain result) }
     ensures any_moment { OnlyAt H.told place.now.dir.0 (H.state host.old) (H.state host.new) (λ d. d ≡ disk_at (H.state host.old) place.now.dir.0) }
 {
-    let mut left = Left {
-        finalized: 0,
-        in_progress: 0,
-        last: id,
-        ended: false,
+    let mut at = Waiting {
+        left: Left {
+            finalized: 0,
+            in_progress: 0,
+            last: id,
+            ended: false,
+        },
+        held: None,
     };
     loop {
-        left = replay_next(alloc, host, place, names, &left, tree)?;
-        if left.ended {
-            return Ok(left.last);
+        at = replay_next(alloc, host, place, at, tree)?;
+        if at.left.ended {
+            return Ok(at.left.last);
         }
     }
 }
@@ -76,30 +87,50 @@ fn replay_next<H: Host, T: Tree>(
     alloc: Global,
     host: &mut H,
     place: &Place,
-    names: &[FileName],
-    left: &Left,
+    at: Waiting,
     tree: &mut T,
-) -> Result<Left, ChainFault>
+) -> Result<Waiting, ChainFault>
     requires below { place.now.dir.0 < (H.state host.old).count }
-    requires listed { H.told → IsListing ((H.state host.old).reads place.now.dir.0) place.now.sub names.now }
-    requires inside { IsInside names.now left.now }
-    requires left { H.told → AreLeft (folder_at ((H.state host.old).reads place.now.dir.0) place.now.sub) place.now.layout names.now left.now.finalized left.now.in_progress left.now.last }
-    ensures ok { H.told → IfOk result (λ then. IsTurn (folder_at ((H.state host.old).reads place.now.dir.0) place.now.sub) place.now.layout names.now left.now then (T.meaning tree.old) (T.meaning tree.new)) }
-    ensures further { IfOk result (λ then. then.ended ≡ false → IsFurther names.now left.now then) }
+    requires listed { H.told → IsListing ((H.state host.old).reads place.now.dir.0) place.now.sub place.now.names.items }
+    requires waits { IsWaiting place.now.names.items at }
+    requires left { H.told → IsLeft (folder_at ((H.state host.old).reads place.now.dir.0) place.now.sub) place.now.version.layout place.now.names.items at }
+    ensures ok { H.told → IfOk result (λ then. IsPlayed (folder_at ((H.state host.old).reads place.now.dir.0) place.now.sub) place.now.version.layout place.now.names.items at.left then (T.meaning tree.old) (T.meaning tree.new)) }
+    ensures further { IfOk result (λ then. then.left.ended ≡ false → GoesOn place.now.names.items at.left then) }
     ensures imaged { IsImaged (T.meaning tree.old) → IsImaged (T.meaning tree.new) }
     ensures cause { IfErr result (λ fault. (fault ≡ ChainFault.Failed) ⊎ (fault ≡ ChainFault.Memory)) }
     ensures kept { Looked H.told place.now.dir.0 (H.state host.old) (H.state host.new) (answered_chain result) }
     ensures any_moment { OnlyAt H.told place.now.dir.0 (H.state host.old) (H.state host.new) (λ d. d ≡ disk_at (H.state host.old) place.now.dir.0) }
 {
-    let next = next_id(left);
-    let Some((k, span)) = next_finalized(names, left.finalized, left.last) else {
-        return replay_in_progress(alloc, host, place, names, NO_ID, left, tree);
+    let Waiting { left, held } = at;
+    let Some((k, span)) = next_finalized(place, left.finalized, left.last) else {
+        let at = Waiting {
+            left: behind(&left, place.names.len()),
+            held,
+        };
+        return replay_in_progress(alloc, host, place, NO_ID, at, tree);
     };
     let first = first_id(&span);
+    let next = next_id(&left);
+    let at = Waiting {
+        left: behind(&left, k),
+        held,
+    };
     if first <= next {
-        replay_finalized(alloc, host, place, names, k, span, left, tree)
+        replay_finalized(alloc, host, place, span, at, tree)
     } else {
-        replay_in_progress(alloc, host, place, names, first - 1, left, tree)
+        replay_in_progress(alloc, host, place, first - 1, at, tree)
+    }
+}
+
+/// The finalized segments before this place are let go.
+fn behind(left: &Left, k: usize) -> Left
+    ensures { result ≡ record { finalized = k; in_progress = left.now.in_progress; last = left.now.last; ended = left.now.ended } }
+{
+    Left {
+        finalized: k,
+        in_progress: left.in_progress,
+        last: left.last,
+        ended: left.ended,
     }
 }
 
@@ -137,45 +168,39 @@ fn in_progress_segment(first: FirstTxid, until: u64) -> Segment
     }
 }
 
-/// Whether records have led up to this id.
-fn has_reached(reach: &Reach, until: u64) -> bool
-    ensures yes { result ≡ true → reach.now.last ≡ until }
-    ensures no { result ≡ false → reach.now.last ≢ until }
-{
-    reach.last.0 == until
-}
-
-/// Replays the records of this finalized segment.
+/// Replays the records of the first finalized segment that is left, which is this.
 fn replay_finalized<H: Host, T: Tree>(
     alloc: Global,
     host: &mut H,
     place: &Place,
-    names: &[FileName],
-    k: usize,
     span: Span,
-    left: &Left,
+    at: Waiting,
     tree: &mut T,
-) -> Result<Left, ChainFault>
+) -> Result<Waiting, ChainFault>
     requires below { place.now.dir.0 < (H.state host.old).count }
-    requires listed { H.told → IsListing ((H.state host.old).reads place.now.dir.0) place.now.sub names.now }
-    requires inside { IsInside names.now left.now }
-    requires next { IsNextFinalized names.now left.now.finalized left.now.last k span }
-    requires begun { span.0 ≤ left.now.last + 1 }
-    requires left { H.told → AreLeft (folder_at ((H.state host.old).reads place.now.dir.0) place.now.sub) place.now.layout names.now left.now.finalized left.now.in_progress left.now.last }
-    ensures ok { H.told → IfOk result (λ then. IsTurn (folder_at ((H.state host.old).reads place.now.dir.0) place.now.sub) place.now.layout names.now left.now then (T.meaning tree.old) (T.meaning tree.new)) }
-    ensures further { IfOk result (λ then. then.ended ≡ false → IsFurther names.now left.now then) }
+    requires listed { H.told → IsListing ((H.state host.old).reads place.now.dir.0) place.now.sub place.now.names.items }
+    requires waits { IsWaiting place.now.names.items at }
+    requires next { IsNextFinalized place.now.names.items at.left.finalized at.left.last at.left.finalized span }
+    requires begun { span.0 ≤ at.left.last + 1 }
+    requires left { H.told → IsLeft (folder_at ((H.state host.old).reads place.now.dir.0) place.now.sub) place.now.version.layout place.now.names.items at }
+    ensures ok { H.told → IfOk result (λ then. IsPlayed (folder_at ((H.state host.old).reads place.now.dir.0) place.now.sub) place.now.version.layout place.now.names.items at.left then (T.meaning tree.old) (T.meaning tree.new)) }
+    ensures further { IfOk result (λ then. then.left.ended ≡ false → GoesOn place.now.names.items at.left then) }
     ensures imaged { IsImaged (T.meaning tree.old) → IsImaged (T.meaning tree.new) }
     ensures cause { IfErr result (λ fault. (fault ≡ ChainFault.Failed) ⊎ (fault ≡ ChainFault.Memory)) }
     ensures kept { Looked H.told place.now.dir.0 (H.state host.old) (H.state host.new) (answered_chain result) }
     ensures any_moment { OnlyAt H.told place.now.dir.0 (H.state host.old) (H.state host.new) (λ d. d ≡ disk_at (H.state host.old) place.now.dir.0) }
 {
+    let Waiting { left, held } = at;
     let segment = finalized_segment(span);
     let reach = replay_file(alloc, host, place, &segment, left.last, tree)?;
-    Ok(Left {
-        finalized: k + 1,
-        in_progress: left.in_progress,
-        last: reach.last,
-        ended: !reach.fit,
+    Ok(Waiting {
+        left: Left {
+            finalized: left.finalized + 1,
+            in_progress: left.in_progress,
+            last: reach.last,
+            ended: !reach.fit,
+        },
+        held,
     })
 }
 
@@ -184,86 +209,194 @@ fn replay_in_progress<H: Host, T: Tree>(
     alloc: Global,
     host: &mut H,
     place: &Place,
-    names: &[FileName],
     until: u64,
-    left: &Left,
+    at: Waiting,
     tree: &mut T,
-) -> Result<Left, ChainFault>
+) -> Result<Waiting, ChainFault>
     requires below { place.now.dir.0 < (H.state host.old).count }
-    requires listed { H.told → IsListing ((H.state host.old).reads place.now.dir.0) place.now.sub names.now }
-    requires inside { IsInside names.now left.now }
-    requires room { left.now.last < until }
-    requires gap { H.told → HasGap names.now left.now.finalized left.now.last until }
-    requires left { H.told → AreLeft (folder_at ((H.state host.old).reads place.now.dir.0) place.now.sub) place.now.layout names.now left.now.finalized left.now.in_progress left.now.last }
-    ensures ok { H.told → IfOk result (λ then. IsTurn (folder_at ((H.state host.old).reads place.now.dir.0) place.now.sub) place.now.layout names.now left.now then (T.meaning tree.old) (T.meaning tree.new)) }
-    ensures further { IfOk result (λ then. then.ended ≡ false → IsFurther names.now left.now then) }
+    requires listed { H.told → IsListing ((H.state host.old).reads place.now.dir.0) place.now.sub place.now.names.items }
+    requires waits { IsWaiting place.now.names.items at }
+    requires room { at.left.last < until }
+    requires beyond { until ≤ 2 ^ 63 }
+    requires gap { H.told → HasGap place.now.names.items at.left.finalized at.left.last until }
+    requires left { H.told → IsLeft (folder_at ((H.state host.old).reads place.now.dir.0) place.now.sub) place.now.version.layout place.now.names.items at }
+    ensures ok { H.told → IfOk result (λ then. IsPlayed (folder_at ((H.state host.old).reads place.now.dir.0) place.now.sub) place.now.version.layout place.now.names.items at.left then (T.meaning tree.old) (T.meaning tree.new)) }
+    ensures further { IfOk result (λ then. then.left.ended ≡ false → GoesOn place.now.names.items at.left then) }
     ensures imaged { IsImaged (T.meaning tree.old) → IsImaged (T.meaning tree.new) }
     ensures cause { IfErr result (λ fault. (fault ≡ ChainFault.Failed) ⊎ (fault ≡ ChainFault.Memory)) }
     ensures kept { Looked H.told place.now.dir.0 (H.state host.old) (H.state host.new) (answered_chain result) }
     ensures any_moment { OnlyAt H.told place.now.dir.0 (H.state host.old) (H.state host.new) (λ d. d ≡ disk_at (H.state host.old) place.now.dir.0) }
 {
-    let Some((k, first)) = next_in_progress(names, left.in_progress) else {
+    let Waiting { left, held } = at;
+    if let Some(held) = held {
+        return replay_held(alloc, place, held, until, left, tree);
+    }
+    let Some((k, first)) = next_in_progress(place, left.in_progress) else {
         return Ok(ended(left));
     };
-    replay_waiting(alloc, host, place, names, k, first, until, left, tree)
+    if next_id(&left) < first.0.0 {
+        return Ok(ended(left));
+    }
+    let left = standing_at(left, k);
+    if until == NO_ID {
+        replay_last(alloc, host, place, first, left, tree)
+    } else {
+        replay_part(alloc, host, place, first, until, left, tree)
+    }
 }
 
-/// Replays the records of this segment in progress up to the id `until`, if it has the next one.
-fn replay_waiting<H: Host, T: Tree>(
+/// The segments in progress before this place are let go.
+fn standing_at(left: Left, k: usize) -> Left
+    ensures { result ≡ record { finalized = left.finalized; in_progress = k; last = left.last; ended = left.ended } }
+{
+    Left {
+        finalized: left.finalized,
+        in_progress: k,
+        last: left.last,
+        ended: left.ended,
+    }
+}
+
+/// Replays the records of the first segment in progress that is left, which is this. No finalized one is left.
+fn replay_last<H: Host, T: Tree>(
     alloc: Global,
     host: &mut H,
     place: &Place,
-    names: &[FileName],
-    k: usize,
     first: FirstTxid,
-    until: u64,
-    left: &Left,
+    left: Left,
     tree: &mut T,
-) -> Result<Left, ChainFault>
+) -> Result<Waiting, ChainFault>
     requires below { place.now.dir.0 < (H.state host.old).count }
-    requires listed { H.told → IsListing ((H.state host.old).reads place.now.dir.0) place.now.sub names.now }
-    requires inside { IsInside names.now left.now }
-    requires next { IsNextInProgress names.now left.now.in_progress k first }
-    requires room { left.now.last < until }
-    requires gap { H.told → HasGap names.now left.now.finalized left.now.last until }
-    requires left { H.told → AreLeft (folder_at ((H.state host.old).reads place.now.dir.0) place.now.sub) place.now.layout names.now left.now.finalized left.now.in_progress left.now.last }
-    ensures ok { H.told → IfOk result (λ then. IsTurn (folder_at ((H.state host.old).reads place.now.dir.0) place.now.sub) place.now.layout names.now left.now then (T.meaning tree.old) (T.meaning tree.new)) }
-    ensures further { IfOk result (λ then. then.ended ≡ false → IsFurther names.now left.now then) }
+    requires listed { H.told → IsListing ((H.state host.old).reads place.now.dir.0) place.now.sub place.now.names.items }
+    requires inside { IsInside place.now.names.items left }
+    requires next { IsNextInProgress place.now.names.items left.in_progress left.in_progress first }
+    requires begun { first ≤ left.last + 1 }
+    requires gap { H.told → HasGap place.now.names.items left.finalized left.last (2 ^ 63) }
+    requires left { H.told → AreLeft (folder_at ((H.state host.old).reads place.now.dir.0) place.now.sub) place.now.version.layout place.now.names.items left.finalized left.in_progress left.last }
+    ensures ok { H.told → IfOk result (λ then. IsPlayed (folder_at ((H.state host.old).reads place.now.dir.0) place.now.sub) place.now.version.layout place.now.names.items left then (T.meaning tree.old) (T.meaning tree.new)) }
+    ensures further { IfOk result (λ then. then.left.ended ≡ false → GoesOn place.now.names.items left then) }
     ensures imaged { IsImaged (T.meaning tree.old) → IsImaged (T.meaning tree.new) }
     ensures cause { IfErr result (λ fault. (fault ≡ ChainFault.Failed) ⊎ (fault ≡ ChainFault.Memory)) }
     ensures kept { Looked H.told place.now.dir.0 (H.state host.old) (H.state host.new) (answered_chain result) }
     ensures any_moment { OnlyAt H.told place.now.dir.0 (H.state host.old) (H.state host.new) (λ d. d ≡ disk_at (H.state host.old) place.now.dir.0) }
 {
-    let segment = in_progress_segment(first, until);
-    if next_id(left) < segment.first {
-        return Ok(ended(left));
-    }
+    let segment = in_progress_segment(first, NO_ID);
     let reach = replay_file(alloc, host, place, &segment, left.last, tree)?;
-    if has_reached(&reach, until) {
-        // A finalized segment takes over, and this one may go on behind it.
-        return Ok(Left {
+    // Read, so that its range is known: below NO_ID.
+    let _last = reach.last.0;
+    Ok(Waiting {
+        left: Left {
             finalized: left.finalized,
-            in_progress: k,
+            in_progress: left.in_progress + 1,
             last: reach.last,
             ended: !reach.fit,
+        },
+        held: None,
+    })
+}
+
+/// Replays the records of the first segment in progress that is left, which is this, up to the id `until`, behind which a
+/// finalized one begins.
+fn replay_part<H: Host, T: Tree>(
+    alloc: Global,
+    host: &mut H,
+    place: &Place,
+    first: FirstTxid,
+    until: u64,
+    left: Left,
+    tree: &mut T,
+) -> Result<Waiting, ChainFault>
+    requires below { place.now.dir.0 < (H.state host.old).count }
+    requires listed { H.told → IsListing ((H.state host.old).reads place.now.dir.0) place.now.sub place.now.names.items }
+    requires inside { IsInside place.now.names.items left }
+    requires next { IsNextInProgress place.now.names.items left.in_progress left.in_progress first }
+    requires begun { first ≤ left.last + 1 }
+    requires room { left.last < until }
+    requires gap { H.told → HasGap place.now.names.items left.finalized left.last until }
+    requires left { H.told → AreLeft (folder_at ((H.state host.old).reads place.now.dir.0) place.now.sub) place.now.version.layout place.now.names.items left.finalized left.in_progress left.last }
+    ensures ok { H.told → IfOk result (λ then. IsPlayed (folder_at ((H.state host.old).reads place.now.dir.0) place.now.sub) place.now.version.layout place.now.names.items left then (T.meaning tree.old) (T.meaning tree.new)) }
+    ensures further { IfOk result (λ then. then.left.ended ≡ false → GoesOn place.now.names.items left then) }
+    ensures imaged { IsImaged (T.meaning tree.old) → IsImaged (T.meaning tree.new) }
+    ensures cause { IfErr result (λ fault. (fault ≡ ChainFault.Failed) ⊎ (fault ≡ ChainFault.Memory)) }
+    ensures kept { Looked H.told place.now.dir.0 (H.state host.old) (H.state host.new) (answered_chain result) }
+    ensures any_moment { OnlyAt H.told place.now.dir.0 (H.state host.old) (H.state host.new) (λ d. d ≡ disk_at (H.state host.old) place.now.dir.0) }
+{
+    match hold(alloc, host, place, first)? {
+        Some(held) => replay_held(alloc, place, held, until, left, tree),
+        None => Ok(let_go(left)),
+    }
+}
+
+/// The first segment in progress that is left has no further record.
+fn let_go(left: Left) -> Waiting
+    requires { left.in_progress + 1 < 2 ^ 64 }
+    ensures { result ≡ record { left = record { finalized = left.finalized; in_progress = left.in_progress + 1; last = left.last; ended = false }; held = None } }
+{
+    Waiting {
+        left: Left {
+            finalized: left.finalized,
+            in_progress: left.in_progress + 1,
+            last: left.last,
+            ended: false,
+        },
+        held: None,
+    }
+}
+
+/// Replays the records of the segment in progress that is held, up to the id `until`. It is let go once its last record was
+/// gone over.
+fn replay_held<T: Tree>(
+    alloc: Global,
+    place: &Place,
+    held: Held,
+    until: u64,
+    left: Left,
+    tree: &mut T,
+) -> Result<Waiting, ChainFault>
+    requires inside { IsInside place.now.names.items left }
+    requires stands { IsHeldAt place.now.names.items left (Some held) }
+    requires room { left.last < until }
+    ensures ok { (reads : Reads) → IsListing reads place.now.sub place.now.names.items → IsOf (folder_at reads place.now.sub) place.now.version.layout held → HasGap place.now.names.items left.finalized left.last until
+        → AreLeft (folder_at reads place.now.sub) place.now.version.layout place.now.names.items left.finalized left.in_progress left.last
+        → IfOk result (λ then. IsPlayed (folder_at reads place.now.sub) place.now.version.layout place.now.names.items left then (T.meaning tree.old) (T.meaning tree.new)) }
+    ensures further { IfOk result (λ then. then.left.ended ≡ false → GoesOn place.now.names.items left then) }
+    ensures imaged { IsImaged (T.meaning tree.old) → IsImaged (T.meaning tree.new) }
+    ensures cause { IfErr result (λ fault. fault ≡ ChainFault.Memory) }
+{
+    let (reach, held) = held.replay(alloc, left.last, until, tree)?;
+    if held.last.0 < held.next {
+        return Ok(Waiting {
+            left: Left {
+                finalized: left.finalized,
+                in_progress: left.in_progress + 1,
+                last: reach.last,
+                ended: !reach.fit,
+            },
+            held: None,
         });
     }
-    Ok(Left {
-        finalized: left.finalized,
-        in_progress: k + 1,
-        last: reach.last,
-        ended: !reach.fit,
+    Ok(Waiting {
+        left: Left {
+            finalized: left.finalized,
+            in_progress: left.in_progress,
+            last: reach.last,
+            ended: !reach.fit,
+        },
+        held: Some(held),
     })
 }
 
 /// No further record comes.
-fn ended(left: &Left) -> Left
-    ensures { result ≡ record { finalized = left.now.finalized; in_progress = left.now.in_progress; last = left.now.last; ended = true } }
+fn ended(left: Left) -> Waiting
+    ensures { result ≡ record { left = record { finalized = left.finalized; in_progress = left.in_progress; last = left.last; ended = true }; held = None } }
 {
-    Left {
-        finalized: left.finalized,
-        in_progress: left.in_progress,
-        last: left.last,
-        ended: true,
+    Waiting {
+        left: Left {
+            finalized: left.finalized,
+            in_progress: left.in_progress,
+            last: left.last,
+            ended: true,
+        },
+        held: None,
     }
 }

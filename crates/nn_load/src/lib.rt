@@ -4,6 +4,7 @@
 
 mod chain;
 mod fault;
+mod held;
 mod loading;
 mod newest;
 mod queue;

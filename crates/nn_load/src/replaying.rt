@@ -1,5 +1,5 @@
 // Replaying the records of one segment.
-ghost use Rattle.std.specs.Prelude.{◌≡◌, ◌+◌, ◌<◌, ◌≤◌, List, IfOk, IfErr, IfSome, IfNone, Contains, true};
+ghost use Rattle.std.specs.Prelude.{◌≡◌, ◌⊎◌, ◌+◌, ◌<◌, ◌≤◌, List, IfOk, IfErr, IfSome, IfNone, Contains, true};
 ghost use Rattle.nn_record.specs.declared.transaction.Record.{Record};
 ghost use Rattle.nn_record.specs.Ops.{IsOp};
 ghost use Rattle.nn_tree.specs.Imaged.{IsImaged};
@@ -101,6 +101,27 @@ fn replay_front<T: Tree>(
     };
     let further = advance(alloc, &transaction, reach, until, tree)?;
     Ok(Some((len, further)))
+}
+
+/// The same, but none where this id comes after `until` either.
+pub(crate) fn replay_wanted<T: Tree>(
+    alloc: Global,
+    rest: &[u8],
+    id: u64,
+    reach: &Reach,
+    until: u64,
+    tree: &mut T,
+) -> Result<Option<(usize, Reach)>, ChainFault>
+    ensures some { IfOk result (λ found. IfSome found (λ front. (r : Record) × IsNext rest.now id r front.0 × (id ≤ until) ×
+        Advances until r (record { last = reach.now.last; ns = T.meaning tree.old }) (record { last = front.1.last; ns = T.meaning tree.new }) reach.now.fit front.1.fit)) }
+    ensures none { IfOk result (λ found. IfNone found ((until < id ⊎ NoneNext rest.now id) × (T.meaning tree.new ≡ T.meaning tree.old))) }
+    ensures imaged { IsImaged (T.meaning tree.old) → IsImaged (T.meaning tree.new) }
+    ensures cause { IfErr result (λ fault. fault ≡ ChainFault.Memory) }
+{
+    if until < id {
+        return Ok(None);
+    }
+    replay_front(alloc, rest, id, reach, until, tree)
 }
 
 /// Replays a record, if its id comes after the last and up to `until`, and all before it fitted.

@@ -14,20 +14,23 @@ use crate::replaying::{Reach, replay_run};
 use nn_base::limits::MOST_SEGMENT_READ;
 use nn_base::{DirNo, FileName, Sub, Txid};
 use nn_host::Host;
+use nn_marks::Version;
 use nn_small::{ReadAll, read_all};
 use nn_tree::Tree;
 use std::alloc::Global;
 
 /// The most bytes of a segment file that is read. A longer one counts as empty.
-const MOST: u64 = MOST_SEGMENT_READ as u64;
+pub(crate) const MOST: u64 = MOST_SEGMENT_READ as u64;
 
-/// Where segments are read.
+/// A folder that is read, and what stands there.
 #[derive(Drop)]
 pub(crate) struct Place {
     pub(crate) dir: DirNo,
     pub(crate) sub: Sub,
-    /// The layout that VERSION says.
-    pub(crate) layout: i32,
+    /// What VERSION says.
+    pub(crate) version: Version,
+    /// The files that stand there, in the order of their names.
+    pub(crate) names: Vec<FileName>,
 }
 
 /// A segment file, and which of its records are wanted.
@@ -53,7 +56,7 @@ pub(crate) fn replay_file<H: Host, T: Tree>(
     requires part { IsPart segment.now.name segment.now.first segment.now.until }
     requires begun { segment.now.first ≤ last + 1 }
     requires room { last < segment.now.until }
-    ensures ok { H.told → IfOk result (λ reach. AreReplayed (HoldsRecord (folder_at ((H.state host.old).reads place.now.dir.0) place.now.sub) place.now.layout segment.now.name) segment.now.until
+    ensures ok { H.told → IfOk result (λ reach. AreReplayed (HoldsRecord (folder_at ((H.state host.old).reads place.now.dir.0) place.now.sub) place.now.version.layout segment.now.name) segment.now.until
         (record { last = last; ns = T.meaning tree.old }) (record { last = reach.last; ns = T.meaning tree.new }) reach.fit) }
     ensures imaged { IsImaged (T.meaning tree.old) → IsImaged (T.meaning tree.new) }
     ensures within { IfOk result (λ reach. (last ≤ reach.last) × (reach.last ≤ segment.now.until)) }
@@ -65,7 +68,7 @@ pub(crate) fn replay_file<H: Host, T: Tree>(
         Ok(bytes) => replay_run(
             alloc,
             &bytes,
-            place.layout,
+            place.version.layout,
             segment.first,
             last,
             segment.until,

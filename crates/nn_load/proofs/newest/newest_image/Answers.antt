@@ -12,7 +12,7 @@ older_image-requires-clause-none g c = λ tells.
     let err = c.in-Err-Unsound.ensures.err tells in
     let passed = rw c.in-Err-Unsound.field-0-is at err in
     let kept = rw c.in-Err-Unsound.field-0-is at c.in-Err-Unsound.ensures.kept in
-    subst (λ (r : Reads). NoneIntactFrom (folder_at r c.args.sub) c.args.version.now c.args.names.now c.in-Some.k) (sym (kept.reads tells refl)) passed.0
+    subst (λ (r : Reads). NoneIntactFrom (folder_at r c.args.place.now.sub) c.args.place.now.version c.args.place.now.names.items c.in-Some.k) (sym (kept.reads tells refl)) passed.0
 
 pub older_image-requires-clause-why : goal.older_image-requires-clause-why
 older_image-requires-clause-why g c = λ tells.
@@ -20,7 +20,7 @@ older_image-requires-clause-why g c = λ tells.
     let passed = rw c.in-Err-Unsound.field-0-is at err in
     let kept = rw c.in-Err-Unsound.field-0-is at c.in-Err-Unsound.ensures.kept in
     let last = passed.1 (omega arith) in
-    subst (λ (r : Reads). IsLastUnsound (folder_at r c.args.sub) c.args.version.now c.in-Err-Unsound.why) (sym (kept.reads tells refl)) last
+    subst (λ (r : Reads). IsLastUnsound (folder_at r c.args.place.now.sub) c.args.place.now.version c.in-Err-Unsound.why) (sym (kept.reads tells refl)) last
 
 pub returns-in-Err-Unsound-clause-kept : goal.returns-in-Err-Unsound-clause-kept
 returns-in-Err-Unsound-clause-kept g c = let kept = rw c.in-Err-Unsound.field-0-is at c.in-Err-Unsound.ensures.kept in looked_then kept c.older_image.ensures.kept

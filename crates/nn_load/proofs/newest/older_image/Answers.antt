@@ -7,10 +7,10 @@ use Rattle.nn_load.specs.Newest.{NoneIntactFrom, IsNewestOf}
 use Rattle.nn_load.proofs.newest.older_image.Goals as goal
 
 pub image_before-requires-clause-none : goal.image_before-requires-clause-none
-image_before-requires-clause-none g c = λ tells. subst (λ (r : Reads). NoneIntactFrom (folder_at r c.args.sub) c.args.version.now c.args.names.now c.loop-k.left) (sym (c.loop-k.invariant.kept.reads tells refl)) (c.loop-k.invariant.none tells)
+image_before-requires-clause-none g c = λ tells. subst (λ (r : Reads). NoneIntactFrom (folder_at r c.args.place.now.sub) c.args.place.now.version c.args.place.now.names.items c.loop-k.left) (sym (c.loop-k.invariant.kept.reads tells refl)) (c.loop-k.invariant.none tells)
 
 pub returns-in-Ok-clause-ok : goal.returns-in-Ok-clause-ok
-returns-in-Ok-clause-ok g c = λ tells. subst (λ (r : Reads). IsNewestOf (folder_at r c.args.sub) c.args.version.now c.in-Ok.it.id (g.T.Tree.meaning c.in-Ok.it.tree)) (c.loop-k.invariant.kept.reads tells refl) (c.in-Ok.ensures.ok tells)
+returns-in-Ok-clause-ok g c = λ tells. subst (λ (r : Reads). IsNewestOf (folder_at r c.args.place.now.sub) c.args.place.now.version c.in-Ok.it.id (g.T.Tree.meaning c.in-Ok.it.tree)) (c.loop-k.invariant.kept.reads tells refl) (c.in-Ok.ensures.ok tells)
 
 pub returns-in-Ok-clause-kept : goal.returns-in-Ok-clause-kept
 returns-in-Ok-clause-kept g c = looked_then c.loop-k.invariant.kept c.in-Ok.ensures.kept
@@ -27,7 +27,7 @@ loop-k-preserved g c =
       none = λ tells.
           let err = c.in-Err-Unsound.ensures.err tells in
           let passed = rw c.in-Err-Unsound.field-0-is at err in
-          subst (λ (r : Reads). NoneIntactFrom (folder_at r c.args.sub) c.args.version.now c.args.names.now c.in-Some.k) (c.loop-k.invariant.kept.reads tells refl) passed.0;
+          subst (λ (r : Reads). NoneIntactFrom (folder_at r c.args.place.now.sub) c.args.place.now.version c.args.place.now.names.items c.in-Some.k) (c.loop-k.invariant.kept.reads tells refl) passed.0;
       kept = looked_then c.loop-k.invariant.kept kept;
       still = still_then c.loop-k.invariant.still c.in-Err-Unsound.ensures.any_moment;
     }

@@ -7,10 +7,10 @@ use Rattle.nn_load.proofs.newest.older_image.Given as goal
 
 abbrev pub invariant-loop-k : goal.invariant-loop-k
 invariant-loop-k g l = record {
-  inside : l.left ≤ length l.names;
-  none : g.H.Host.told → NoneIntactFrom (folder_at ((g.H.Host.state l.fn.host).reads l.fn.i.0) l.fn.sub) l.version l.names l.left;
-  kept : Looked g.H.Host.told l.fn.i.0 (g.H.Host.state l.fn.host) (g.H.Host.state l.host) true;
-  still : OnlyAt g.H.Host.told l.fn.i.0 (g.H.Host.state l.fn.host) (g.H.Host.state l.host) (λ d. d ≡ disk_at (g.H.Host.state l.fn.host) l.fn.i.0);
+  inside : l.left ≤ length l.place.names.items;
+  none : g.H.Host.told → NoneIntactFrom (folder_at ((g.H.Host.state l.fn.host).reads l.fn.place.dir.0) l.fn.place.sub) l.place.version l.place.names.items l.left;
+  kept : Looked g.H.Host.told l.fn.place.dir.0 (g.H.Host.state l.fn.host) (g.H.Host.state l.host) true;
+  still : OnlyAt g.H.Host.told l.fn.place.dir.0 (g.H.Host.state l.fn.host) (g.H.Host.state l.host) (λ d. d ≡ disk_at (g.H.Host.state l.fn.host) l.fn.place.dir.0);
 }
 
 abbrev pub decreases-loop-k : goal.decreases-loop-k
