@@ -1,5 +1,5 @@
 -- The directories of the greatest cTime, as their VERSIONs were read.
-use Rattle.std.proofs.Common.{◌≡◌, ◌≢◌, ℕ, ◌<◌, ◌≤◌, List, length, Option, Some, None, sym, ◌∙◌, arith}
+use Rattle.std.proofs.Common.{◌≡◌, ◌≢◌, ◌↔◌, ℕ, ◌<◌, ◌≤◌, Bool, true, List, length, Option, Some, None, sym, ◌∙◌, arith}
 use Rattle.std.proofs.lemmas.Option.{none-some}
 use Rattle.nn_marks.specs.declared.version.Version.{Version}
 use Rattle.nn_chain.specs.Folder.{Folder, folder_at}
@@ -9,8 +9,8 @@ use Rattle.nn_choose.specs.declared.served.Lead.{Lead}
 use Rattle.nn_choose.specs.declared.served.Served.{Served}
 use Rattle.nn_pick.specs.Dirs.{Dirs, HasGreatestCtime}
 use Rattle.nn_pick.specs.Refusing.{Refuses, test_of}
-use Rattle.nn_choose.specs.Served.{AreServed, IsLead, served_at}
-use Rattle.nn_choose.specs.Picking.{NoneBefore}
+use Rattle.nn_choose.specs.Served.{AreServed, IsLead, AreOfCtime, served_at}
+use Rattle.nn_choose.specs.Picking.{IsAhead, NoneBefore}
 use Rattle.nn_choose.proofs.FoundLemmas.{within_dirs, within_list, serves_under, found_at, none_served, is_formatted}
 use Rattle.nn_choose.proofs.VersionsLemmas.{faultless}
 use Rattle.std.proofs.lemmas.Bool.{cases_lt}
@@ -69,3 +69,16 @@ module _ (dirs : Dirs) (served : List (Option Served)) (are : AreServed dirs ser
     -- nor one of another cTime
     pub not_ahead : (j : ℕ) → ((it : Served) → served_at served j ≡ Some it → it.version.ctime ≢ lead.served.version.ctime) → (version : Version) (folder : Folder) → ¬ HasGreatestCtime dirs j version folder
     not_ahead j other version folder ahead = let it = ahead_is j version folder ahead in other it.0 it.1 it.2
+
+    -- those of its cTime are those of the greatest
+    pub ahead_alike : (ahead : ℕ → Bool) → AreOfCtime served lead.served.version.ctime (length served) ahead → (i : ℕ) → (ahead i ≡ true) ↔ IsAhead dirs i
+    ahead_alike ahead alike i = (
+      λ is. let it = (alike i).0 is in (it.0.version, folder_at (dirs.at i) it.0.sub, is_ahead i it.0 it.2 it.3),
+      λ has. let it = ahead_is i has.0 has.1 has.2 in (alike i).1 (it.0, within_list dirs served are i has.2.below, it.1, it.2),
+    )
+
+  -- where none is formatted
+  pub none_ahead : ((j : ℕ) → j < length served → served_at served j ≡ None) → (i : ℕ) → ¬ IsAhead dirs i
+  none_ahead none i has =
+      let found = found_at dirs served are i has.0 has.1 has.2.below has.2.under in
+      none-some found.it (sym (none i (within_list dirs served are i has.2.below)) ∙ found.at)

@@ -7,10 +7,12 @@ pub mod VersionsLemmas
 pub mod FoundLemmas
 pub mod ClashLemmas
 pub mod LayoutLemmas
+pub mod ToldLemmas
 pub mod AheadLemmas
 pub mod BestLemmas
 pub mod BetterLemmas
 pub mod ChosenLemmas
 pub mod SeenLemmas
+pub mod CtimeLemmas
 pub mod LoadingLemmas
 pub mod AnswerLemmas

@@ -2,6 +2,7 @@
 use Rattle.std.proofs.Common.{◌≡◌, ◌≢◌, ℕ, ◌+◌, ◌<◌, true, List, length, Option, Some, sym, subst, arith}
 use Rattle.std.specs.Prelude.{max}
 use Rattle.nn_base.specs.DirSets.{has}
+use Rattle.nn_base.specs.declared.ids.DirNo.{DirNo}
 use Rattle.nn_host.specs.Disk.{Reads}
 use Rattle.nn_host.specs.Moments.{State}
 use Rattle.nn_marks.specs.declared.version.Version.{Version}
@@ -12,14 +13,16 @@ use Rattle.nn_choose.specs.declared.best.Best.TheVariants.{Chain, NoImage}
 use Rattle.nn_choose.specs.declared.served.Lead.{Lead}
 use Rattle.nn_choose.specs.declared.served.Served.{Served}
 use Rattle.nn_tree.specs.Imaged.{IsImaged}
+use Rattle.nn_image.specs.declared.fault.ImageFault.TheVariants as image_fault
 use Rattle.nn_chain.specs.declared.why.ImageWhy.{ImageWhy}
+use Rattle.nn_chain.specs.declared.why.ImageWhy.TheVariants.{Fault}
 use Rattle.nn_pick.specs.declared.fault.OpenFault.TheVariants.{Refused}
 use Rattle.nn_pick.specs.declared.refusal.Refusal.TheVariants as refusal
 use Rattle.nn_pick.specs.Dirs.{Dirs, HasGreatestCtime, IsGreatestSeen}
 use Rattle.nn_choose.specs.declared.best.Furthest.{Furthest}
 use Rattle.nn_choose.specs.Served.{AreServed, IsLead, served_at}
-use Rattle.nn_choose.specs.Looking.{OnlyLooked, dirs_of}
-use Rattle.nn_choose.specs.Picking.{HaveNoImage, IsBest, IsBestChain, IsImagedBest, IsRefusedAnyway, NoneBefore, IsLoaded, IsNext, IsOfOne, IsOfFirst, IsSeen, IsGreatestBelow}
+use Rattle.nn_choose.specs.Looking.{OnlyLooked, dirs_read}
+use Rattle.nn_choose.specs.Picking.{HaveNoImage, IsBest, IsBestChain, IsSoundBest, IsRefusedAnyway, NeverMemory, NoneBefore, IsLoaded, IsNextLoaded, IsOfOne, IsOfFirst, IsSeen, IsGreatestBelow}
 use Rattle.nn_choose.proofs.LookingLemmas.{looked_trans}
 use Rattle.nn_choose.proofs.AheadLemmas.{is_ahead, lead_ahead, none_lower, not_ahead}
 use Rattle.nn_choose.proofs.BestLemmas.{below_more, best_begins, best_stays, no_image_stays, none_here}
@@ -51,8 +54,8 @@ module _ {T : Type 0} (meaning : T → Namespace) (dirs : Dirs) (served : List (
 -- the directories of the greatest cTime below n were loaded
 pub record Loading {T : Type 0} (meaning : T → Namespace) (told : Type 0) (lead : Lead) (n : ℕ) (start now : State) (best : Best T) : Type 0 where
   pub looked : OnlyLooked told start now
-  pub chain : told → IsBest meaning (dirs_of start) lead n best
-  pub imaged : told → IsImagedBest meaning best
+  pub chain : told → IsBest meaning (dirs_read start) lead n best
+  pub sound : IsSoundBest meaning best
   pub first : IsOfFirst n best
 
 pub of_first : {T : Type 0} (n : ℕ) (best : Best T) → IsOfOne n best → IsOfFirst (n + 1) best
@@ -63,12 +66,12 @@ pub first_more : {T : Type 0} (n : ℕ) (best : Best T) → IsOfFirst n best →
 first_more n (Chain it) first = λ j is. let lt = first j is in omega (arith, lt)
 first_more n (NoImage why) first = tt
 
-module _ {T : Type 0} (meaning : T → Namespace) {told : Type 0} {a : State} (served : List (Option Served)) (are : told → AreServed (dirs_of a) served) (lead : Lead) (leads : IsLead served (length served) lead) where
-  pub loading_begins : {b : State} (best : Best T) → OnlyLooked told a b → (told → IsLoaded meaning (folder_at (a.reads lead.dir.0) lead.served.sub) lead.served.version best) → IsOfOne lead.dir.0 best → (told → IsImagedBest meaning best) → Loading meaning told lead (lead.dir.0 + 1) a b best
-  loading_begins best looked loaded one imaged = record {
+module _ {T : Type 0} (meaning : T → Namespace) {told : Type 0} {a : State} (served : List (Option Served)) (are : told → AreServed (dirs_read a) served) (lead : Lead) (leads : IsLead served (length served) lead) where
+  pub loading_begins : {b : State} (best : Best T) → OnlyLooked told a b → (told → IsLoaded meaning (folder_at (a.reads lead.dir.0) lead.served.sub) lead.served.version best) → IsOfOne lead.dir.0 best → IsSoundBest meaning best → Loading meaning told lead (lead.dir.0 + 1) a b best
+  loading_begins best looked loaded one sound = record {
     looked = looked;
-    chain = λ tells. best_at_lead meaning (dirs_of a) served (are tells) lead leads best (loaded tells) one;
-    imaged = imaged;
+    chain = λ tells. best_at_lead meaning (dirs_read a) served (are tells) lead leads best (loaded tells) one;
+    sound = sound;
     first = of_first lead.dir.0 best one;
   }
 
@@ -76,70 +79,73 @@ module _ {T : Type 0} (meaning : T → Namespace) {told : Type 0} {a : State} (s
     pub loading_skips : ((it : Served) → served_at served n ≡ Some it → it.version.ctime ≢ lead.served.version.ctime) → Loading meaning told lead (n + 1) a b best
     loading_skips other = record {
       looked = so_far.looked;
-      chain = λ tells. best_skips meaning (dirs_of a) served (are tells) lead leads n best other (so_far.chain tells);
-      imaged = so_far.imaged;
+      chain = λ tells. best_skips meaning (dirs_read a) served (are tells) lead leads n best other (so_far.chain tells);
+      sound = so_far.sound;
       first = first_more n best so_far.first;
     }
 
     pub loading_more : {c : State} (it : Served) (next more : Best T) → OnlyLooked told b c → served_at served n ≡ Some it → it.version.ctime ≡ lead.served.version.ctime
-        → (told → IsLoaded meaning (folder_at (b.reads n) it.sub) it.version next) → ((dirs : Dirs) (lead : Lead) → IsBest meaning dirs lead n best → IsNext meaning dirs n next → IsBest meaning dirs lead (n + 1) more)
-        → IsOfFirst (n + 1) more → (told → IsImagedBest meaning next) → (IsImagedBest meaning best → IsImagedBest meaning next → IsImagedBest meaning more) → Loading meaning told lead (n + 1) a c more
-    loading_more it next more looked at same loaded better first next_imaged imaged = record {
+        → (told → IsLoaded meaning (folder_at (b.reads n) it.sub) it.version next) → ((dirs : Dirs) (lead : Lead) → IsBest meaning dirs lead n best → IsNextLoaded meaning dirs n next → IsBest meaning dirs lead (n + 1) more)
+        → IsOfFirst (n + 1) more → IsSoundBest meaning next → (IsSoundBest meaning best → IsSoundBest meaning next → IsSoundBest meaning more) → Loading meaning told lead (n + 1) a c more
+    loading_more it next more looked at same loaded better first next_sound sound = record {
       looked = looked_trans so_far.looked looked;
-      chain = λ tells. better (dirs_of a) lead (so_far.chain tells) (
+      chain = λ tells. better (dirs_read a) lead (so_far.chain tells) (
         it.version,
         folder_at (a.reads n) it.sub,
-        is_ahead (dirs_of a) served (are tells) lead leads n it at same,
+        is_ahead (dirs_read a) served (are tells) lead leads n it at same,
         subst (λ (r : Reads). IsLoaded meaning (folder_at r it.sub) it.version next) (so_far.looked.reads tells n) (loaded tells),
       );
-      imaged = λ tells. imaged (so_far.imaged tells) (next_imaged tells);
+      sound = sound so_far.sound next_sound;
       first = first;
     }
 
 -- all were loaded, and there is a chain
 module _ {T : Type 0} (meaning : T → Namespace) {told : Type 0} {lead : Lead} {n : ℕ} {a b : State} {best : Best T} (all : Loading meaning told lead n a b best) (whole : n ≡ a.count) (it : Furthest T) (is : best ≡ Chain it) where
-  pub chain_best : told → IsBestChain (dirs_of a) a.count (meaning it.tree) it.last it.version (has it.dirs)
-  chain_best tells = subst (λ (k : ℕ). IsBestChain (dirs_of a) k (meaning it.tree) it.last it.version (has it.dirs)) whole (subst (IsBest meaning (dirs_of a) lead n) is (all.chain tells))
+  pub chain_best : told → IsBestChain (dirs_read a) a.count (meaning it.tree) it.last it.version (has it.dirs)
+  chain_best tells = subst (λ (k : ℕ). IsBestChain (dirs_read a) k (meaning it.tree) it.last it.version (has it.dirs)) whole (subst (IsBest meaning (dirs_read a) lead n) is (all.chain tells))
 
-  pub chain_imaged : told → IsImaged (meaning it.tree)
-  chain_imaged tells = subst (IsImagedBest meaning) is (all.imaged tells)
+  pub chain_imaged : IsImaged (meaning it.tree)
+  chain_imaged = subst (IsSoundBest meaning) is all.sound
 
   pub chain_within : (j : ℕ) → has it.dirs j ≡ true → j < a.count
   chain_within j noted = subst (λ (k : ℕ). j < k) whole (subst (IsOfFirst n) is all.first j noted)
 
 -- or none has an image
-pub no_image_refused : {T : Type 0} (meaning : T → Namespace) {told : Type 0} {n : ℕ} {a b : State} {best : Best T} (served : List (Option Served)) (are : told → AreServed (dirs_of a) served) (lead : Lead) (leads : IsLead served (length served) lead)
-    → Loading meaning told lead n a b best → n ≡ a.count → (why : ImageWhy) → best ≡ NoImage why → (told → NoneBefore (dirs_of a) 7) → told → IsRefusedAnyway (dirs_of a) (Refused (refusal.NoImage lead.dir why))
+pub no_image_refused : {T : Type 0} (meaning : T → Namespace) {told : Type 0} {n : ℕ} {a b : State} {best : Best T} (served : List (Option Served)) (are : told → AreServed (dirs_read a) served) (lead : Lead) (leads : IsLead served (length served) lead)
+    → Loading meaning told lead n a b best → n ≡ a.count → (why : ImageWhy) → best ≡ NoImage why → (told → NoneBefore (dirs_read a) 7) → told → IsRefusedAnyway (dirs_read a) (Refused (refusal.NoImage lead.dir why))
 no_image_refused meaning {a = a} served are lead leads all whole why is passed tells =
-    let none : HaveNoImage (dirs_of a) a.count lead why = subst (λ (k : ℕ). HaveNoImage (dirs_of a) k lead why) whole (subst (IsBest meaning (dirs_of a) lead _) is (all.chain tells)) in
-    refuses_image (dirs_of a) lead why none (lead_ahead (dirs_of a) served (are tells) lead leads) (λ j lt some. none_lower (dirs_of a) served (are tells) lead leads j some.0 some.1 lt some.2) (passed tells)
+    let none : HaveNoImage (dirs_read a) a.count lead why = subst (λ (k : ℕ). HaveNoImage (dirs_read a) k lead why) whole (subst (IsBest meaning (dirs_read a) lead _) is (all.chain tells)) in
+    refuses_image (dirs_read a) lead why none (lead_ahead (dirs_read a) served (are tells) lead leads) (λ j lt some. none_lower (dirs_read a) served (are tells) lead leads j some.0 some.1 lt some.2) (passed tells)
+
+pub no_image_told : {T : Type 0} (meaning : T → Namespace) {told : Type 0} {lead : Lead} {n : ℕ} {a b : State} {best : Best T} → Loading meaning told lead n a b best → (why : ImageWhy) → best ≡ NoImage why → (i : DirNo) → NeverMemory (Refused (refusal.NoImage i why))
+no_image_told meaning all why is i j e = let same : why ≡ Fault image_fault.Memory = cc in subst (IsSoundBest meaning) is all.sound same
 
 -- ---- seen_txid
 
 -- those of the directories of the greatest cTime below n were read
 pub record Seeing (told : Type 0) (n : ℕ) (start now : State) (seen : ℕ) : Type 0 where
   pub looked : OnlyLooked told start now
-  pub greatest : told → IsGreatestBelow (dirs_of start) n seen
+  pub greatest : told → IsGreatestBelow (dirs_read start) n seen
 
-module _ {told : Type 0} {a : State} (served : List (Option Served)) (are : told → AreServed (dirs_of a) served) (lead : Lead) (leads : IsLead served (length served) lead) where
+module _ {told : Type 0} {a : State} (served : List (Option Served)) (are : told → AreServed (dirs_read a) served) (lead : Lead) (leads : IsLead served (length served) lead) where
   pub seeing_begins : {b : State} {seen : ℕ} → OnlyLooked told a b → (told → IsSeen (folder_at (a.reads lead.dir.0) lead.served.sub) seen) → Seeing told (lead.dir.0 + 1) a b seen
   seeing_begins {b} {seen} looked is = record {
     looked = looked;
-    greatest = λ tells. seen_begins (dirs_of a) lead.dir.0 lead.served.version (folder_at (a.reads lead.dir.0) lead.served.sub) (lead_ahead (dirs_of a) served (are tells) lead leads) seen (is tells)
-        (λ j other theirs lt ahead. none_lower (dirs_of a) served (are tells) lead leads j other theirs lt ahead);
+    greatest = λ tells. seen_begins (dirs_read a) lead.dir.0 lead.served.version (folder_at (a.reads lead.dir.0) lead.served.sub) (lead_ahead (dirs_read a) served (are tells) lead leads) seen (is tells)
+        (λ j other theirs lt ahead. none_lower (dirs_read a) served (are tells) lead leads j other theirs lt ahead);
   }
 
   module _ {n : ℕ} {b : State} {greatest : ℕ} (so_far : Seeing told n a b greatest) where
     pub seeing_skips : ((it : Served) → served_at served n ≡ Some it → it.version.ctime ≢ lead.served.version.ctime) → Seeing told (n + 1) a b greatest
-    seeing_skips other = record { looked = so_far.looked; greatest = λ tells. seen_stays (dirs_of a) n (so_far.greatest tells) (λ version folder ahead. not_ahead (dirs_of a) served (are tells) lead leads n other version folder ahead) }
+    seeing_skips other = record { looked = so_far.looked; greatest = λ tells. seen_stays (dirs_read a) n (so_far.greatest tells) (λ version folder ahead. not_ahead (dirs_read a) served (are tells) lead leads n other version folder ahead) }
 
     pub seeing_more : {c : State} (it : Served) (seen more : ℕ) → OnlyLooked told b c → served_at served n ≡ Some it → it.version.ctime ≡ lead.served.version.ctime → (told → IsSeen (folder_at (b.reads n) it.sub) seen) → more ≡ max greatest seen → Seeing told (n + 1) a c more
     seeing_more it seen more looked at same is is_max = record {
       looked = looked_trans so_far.looked looked;
-      greatest = λ tells. seen_more (dirs_of a) n it.version (folder_at (a.reads n) it.sub) (is_ahead (dirs_of a) served (are tells) lead leads n it at same) seen
+      greatest = λ tells. seen_more (dirs_read a) n it.version (folder_at (a.reads n) it.sub) (is_ahead (dirs_read a) served (are tells) lead leads n it at same) seen
           (subst (λ (r : Reads). IsSeen (folder_at r it.sub) seen) (so_far.looked.reads tells n) (is tells)) more (so_far.greatest tells) is_max;
     }
 
 -- all were read
-pub seeing_all : {told : Type 0} {n : ℕ} {a b : State} {seen : ℕ} → Seeing told n a b seen → n ≡ a.count → told → IsGreatestSeen (dirs_of a) seen
-seeing_all {n = n} {a = a} {seen = seen} all whole tells = seen_all (dirs_of a) seen (subst (λ (k : ℕ). IsGreatestBelow (dirs_of a) k seen) whole (all.greatest tells))
+pub seeing_all : {told : Type 0} {n : ℕ} {a b : State} {seen : ℕ} → Seeing told n a b seen → n ≡ a.count → told → IsGreatestSeen (dirs_read a) seen
+seeing_all {n = n} {a = a} {seen = seen} all whole tells = seen_all (dirs_read a) seen (subst (λ (k : ℕ). IsGreatestBelow (dirs_read a) k seen) whole (all.greatest tells))

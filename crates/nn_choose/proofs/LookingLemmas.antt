@@ -8,7 +8,7 @@ use Rattle.nn_host.proofs.WorkLemmas.{unspoken_work}
 use Rattle.nn_pick.specs.declared.fault.OpenFault.{OpenFault}
 use Rattle.nn_pick.specs.declared.fault.OpenFault.TheVariants.{Refused, Failed, Memory}
 use Rattle.nn_pick.specs.Dirs.{Dirs}
-use Rattle.nn_choose.specs.Looking.{OnlyLooked, LookFailed, LookedUntil, LookedBy, dirs_of}
+use Rattle.nn_choose.specs.Looking.{OnlyLooked, LookFailed, LookedUntil, LookedBy, dirs_read}
 
 pub looked_refl : {told : Type 0} {a : State} → OnlyLooked told a a
 looked_refl = record { untouched = untouched_refl; quiet = unspoken_refl; counts = counts_refl; reads = λ tells j. refl }
@@ -65,13 +65,13 @@ failed_looks below p q = record {
 
 -- ---- the directories stay the same
 
-pub same_dirs : {told : Type 0} {a b : State} → OnlyLooked told a b → told → dirs_of b ≡ dirs_of a
+pub same_dirs : {told : Type 0} {a b : State} → OnlyLooked told a b → told → dirs_read b ≡ dirs_read a
 same_dirs {told} {a} {b} p tells = λ k. record { count = p.untouched.count k; at = λ i. p.reads tells i k }
 
 -- what holds of them before looks holds afterwards, and the other way round
 
-pub moved : {told : Type 0} {a b : State} (P : Dirs → Type 0) → OnlyLooked told a b → told → P (dirs_of a) → P (dirs_of b)
+pub moved : {told : Type 0} {a b : State} (P : Dirs → Type 0) → OnlyLooked told a b → told → P (dirs_read a) → P (dirs_read b)
 moved P p tells x = subst P (sym (same_dirs p tells)) x
 
-pub moved_back : {told : Type 0} {a b : State} (P : Dirs → Type 0) → OnlyLooked told a b → told → P (dirs_of b) → P (dirs_of a)
+pub moved_back : {told : Type 0} {a b : State} (P : Dirs → Type 0) → OnlyLooked told a b → told → P (dirs_read b) → P (dirs_read a)
 moved_back P p tells x = subst P (same_dirs p tells) x

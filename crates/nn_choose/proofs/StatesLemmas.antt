@@ -22,7 +22,7 @@ use Rattle.nn_state.specs.Bays.{AreFound}
 use Rattle.nn_pick.specs.Dirs.{Dirs}
 use Rattle.nn_pick.specs.Refused.{unusable, first_refused}
 use Rattle.nn_pick.specs.Refusing.{Applies, Refuses, test_of}
-use Rattle.nn_choose.specs.Looking.{OnlyLooked, dirs_of}
+use Rattle.nn_choose.specs.Looking.{OnlyLooked, dirs_read}
 use Rattle.nn_choose.specs.Picking.{AreStates, AreServing, NoneBefore, IsRefusedAnyway}
 use Rattle.nn_choose.proofs.LookingLemmas.{looked_refl, looked_trans}
 use Rattle.nn_choose.proofs.ListLemmas.{each_more, longer}
@@ -98,7 +98,7 @@ pub record Surveyed (told : Type 0) (k : ℕ) (start now : State) (found : List 
   pub there : (i : ℕ) (it : Found) → i < k → state_of (slice_index_or found i it) ≢ NonExistent
   pub fits : told → (i : ℕ) (it : Found) → i < k → FitsFound (slice_index_or found i it) (start.reads i)
   pub serves : told → (i : ℕ) (sub : Option Sub) → i < k → slice_index_or subs i sub ≡ serving (start.reads i)
-  pub usable : told → first_refused (usable_in (dirs_of start)) k ≡ None
+  pub usable : told → first_refused (usable_in (dirs_read start)) k ≡ None
 
 pub surveyed_none : {told : Type 0} {a : State} → Surveyed told 0 a a [] []
 surveyed_none = record {
@@ -113,8 +113,8 @@ surveyed_none = record {
 }
 
 -- the fault of the next one
-pub surveyed_fault : {told : Type 0} {k : ℕ} {a b : State} {found : List Found} {subs : List (Option Sub)} → Surveyed told k a b found subs → (fault : OpenFault) → k < a.count → ((refusal : Refusal) → told → fault ≡ Refused refusal → unusable k (table_of (seven_of (b.reads k))) ≡ Some refusal) → told → IsRefusedAnyway (dirs_of a) fault
-surveyed_fault {told} {k} {a} {b} so_far fault below here tells = refused_state (dirs_of a) k fault below (so_far.usable tells)
+pub surveyed_fault : {told : Type 0} {k : ℕ} {a b : State} {found : List Found} {subs : List (Option Sub)} → Surveyed told k a b found subs → (fault : OpenFault) → k < a.count → ((refusal : Refusal) → told → fault ≡ Refused refusal → unusable k (table_of (seven_of (b.reads k))) ≡ Some refusal) → told → IsRefusedAnyway (dirs_read a) fault
+surveyed_fault {told} {k} {a} {b} so_far fault below here tells = refused_state (dirs_read a) k fault below (so_far.usable tells)
     (λ refusal is. ap (λ (r : Reads). unusable k (table_of (seven_of r))) (sym (so_far.looked.reads tells k)) ∙ here refusal tells is)
 
 module _ {told : Type 0} {k : ℕ} {a b c : State} {found : List Found} {subs : List (Option Sub)} (so_far : Surveyed told k a b found subs) where
@@ -128,7 +128,7 @@ module _ {told : Type 0} {k : ℕ} {a b c : State} {found : List Found} {subs : 
     there = each_more (λ i x. state_of x ≢ NonExistent) found more it k so_far.long is so_far.there there;
     fits = λ tells. each_more (λ i x. FitsFound x (a.reads i)) found more it k so_far.long is (so_far.fits tells) (fits tells);
     serves = λ tells. each_more (λ i x. x ≡ serving (a.reads i)) subs more_subs sub k so_far.subs_long subs_is (so_far.serves tells) (serves tells ∙ ap (λ (r : Reads). serving r) (so_far.looked.reads tells k));
-    usable = λ tells. refused_more (usable_in (dirs_of a)) k None (so_far.usable tells) (sym (ap (λ (r : Result StorageState Why). unusable k r) (fits tells) ∙ usable k (state_of it) there));
+    usable = λ tells. refused_more (usable_in (dirs_read a)) k None (so_far.usable tells) (sym (ap (λ (r : Result StorageState Why). unusable k r) (fits tells) ∙ usable k (state_of it) there));
   }
     where
       fits : told → FitsFound it (a.reads k)
@@ -143,11 +143,11 @@ module _ {told : Type 0} {n : ℕ} {a b : State} {found : List Found} {subs : Li
     there = λ k it at. subst (λ (x : Found). state_of x ≢ NonExistent) (sym at.is) (all.there k it (omega (arith, at.within, all.long)));
   }
 
-  pub all_states : told → AreStates (dirs_of a) found
+  pub all_states : told → AreStates (dirs_read a) found
   all_states tells = record { each = λ k it at. subst (λ (x : Found). FitsFound x (a.reads k)) (sym at.is) (all.fits tells k it (omega (arith, at.within, all.long))) }
 
-  pub all_serving : told → AreServing (dirs_of a) subs
+  pub all_serving : told → AreServing (dirs_read a) subs
   all_serving tells = record { each = λ k lt. all.serves tells k None (omega (arith, lt, whole)) }
 
-  pub all_usable : told → NoneBefore (dirs_of a) 2
-  all_usable tells = passed_states (dirs_of a) (subst (λ (k : ℕ). first_refused (usable_in (dirs_of a)) k ≡ None) whole (all.usable tells))
+  pub all_usable : told → NoneBefore (dirs_read a) 2
+  all_usable tells = passed_states (dirs_read a) (subst (λ (k : ℕ). first_refused (usable_in (dirs_read a)) k ≡ None) whole (all.usable tells))

@@ -16,7 +16,7 @@ use Rattle.nn_pick.specs.declared.refusal.Refusal.TheVariants.{NotFormatted, Bad
 use Rattle.nn_choose.specs.declared.served.Served.{Served}
 use Rattle.nn_pick.specs.Dirs.{Dirs, ServesCurrent, fault_in, version_fault}
 use Rattle.nn_pick.specs.Refusing.{Applies, Refuses, IsFaulty, test_of}
-use Rattle.nn_choose.specs.Looking.{OnlyLooked, dirs_of}
+use Rattle.nn_choose.specs.Looking.{OnlyLooked, dirs_read}
 use Rattle.nn_choose.specs.Picking.{NoneBefore, IsRefusedAnyway, IsBadVersionOf}
 use Rattle.nn_choose.specs.Served.{ServesAs, AreServed}
 use Rattle.nn_pick.proofs.HoldsLemmas.{serves_formatted}
@@ -77,11 +77,11 @@ module _ {told : Type 0} {k : ℕ} {a b c : State} {served : List (Option Served
     serves = λ tells. each_more (λ i x. ServesAs (a.reads i) x) served more it k so_far.long is (so_far.serves tells) (subst (λ (r : Reads). ServesAs r it) (so_far.looked.reads tells k) (serves tells));
   }
 
-pub versioned_fault : {told : Type 0} {k : ℕ} {a b : State} {served : List (Option Served)} → Versioned told k a b served → (fault : OpenFault) → k < a.count → (told → NoneBefore (dirs_of a) 2) → (told → IsBadVersionOf (record { 0 = k }) (b.reads k) fault) → told → IsRefusedAnyway (dirs_of a) fault
-versioned_fault {told} {k} {a} {b} {served} so_far fault below passed bad tells = refused_version (dirs_of a) (passed tells) (record { 0 = k }) fault below
+pub versioned_fault : {told : Type 0} {k : ℕ} {a b : State} {served : List (Option Served)} → Versioned told k a b served → (fault : OpenFault) → k < a.count → (told → NoneBefore (dirs_read a) 2) → (told → IsBadVersionOf (record { 0 = k }) (b.reads k) fault) → told → IsRefusedAnyway (dirs_read a) fault
+versioned_fault {told} {k} {a} {b} {served} so_far fault below passed bad tells = refused_version (dirs_read a) (passed tells) (record { 0 = k }) fault below
     (λ j lt faulty. faulty.2 (faultless (a.reads j) (slice_index_or served j None) (so_far.serves tells j None lt) faulty.0 faulty.1))
     (subst (λ (r : Reads). IsBadVersionOf (record { 0 = k }) r fault) (so_far.looked.reads tells k) (bad tells))
 
 -- all were read
-pub all_served : {told : Type 0} {n : ℕ} {a b : State} {served : List (Option Served)} → Versioned told n a b served → n ≡ a.count → told → AreServed (dirs_of a) served
+pub all_served : {told : Type 0} {n : ℕ} {a b : State} {served : List (Option Served)} → Versioned told n a b served → n ≡ a.count → told → AreServed (dirs_read a) served
 all_served all whole tells = record { count = all.long ∙ whole; each = λ k lt. all.serves tells k None (omega (arith, lt, whole)) }

@@ -7,8 +7,8 @@ use Rattle.nn_pick.specs.declared.fault.OpenFault.TheVariants.{Refused, Failed, 
 use Rattle.nn_pick.specs.Dirs.{Dirs}
 
 -- the directories of a host, as they read
-abbrev pub dirs_of : State → Dirs
-dirs_of s = record { count = s.count; at = s.reads }
+abbrev pub dirs_read : State → Dirs
+dirs_read s = record { count = s.count; at = s.reads }
 
 -- From old to new each call was answered: no directory was changed at any moment, each reads as before, and nothing was said.
 pub record OnlyLooked (told : Type 0) (old new : State) : Type 0 where

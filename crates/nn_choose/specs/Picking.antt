@@ -1,5 +1,5 @@
 -- What `pick` answers, and what it finds out on the way.
-use Rattle.std.specs.Prelude.{◌≡◌, ◌⊎◌, ◌↔◌, ℕ, ◌+◌, ◌<◌, ◌≤◌, ◌^◌, Bool, true, List, slice_index_or, Option, Some, None}
+use Rattle.std.specs.Prelude.{◌≡◌, ◌≢◌, ◌⊎◌, ◌↔◌, ℕ, ◌+◌, ◌<◌, ◌≤◌, ◌^◌, Bool, true, List, slice_index_or, Option, Some, None}
 use Rattle.nn_base.specs.DirSets.{has}
 use Rattle.nn_base.specs.declared.ids.DirNo.{DirNo}
 use Rattle.nn_base.specs.declared.sub.Sub.{Sub}
@@ -12,7 +12,9 @@ use Rattle.nn_state.specs.Bays.{IsAt}
 use Rattle.nn_state.specs.Typed.{FitsFound}
 use Rattle.nn_tree.specs.Imaged.{IsImaged}
 use Rattle.nn_tree.specs.Namespace.{Namespace}
+use Rattle.nn_image.specs.declared.fault.ImageFault.TheVariants as image_fault
 use Rattle.nn_chain.specs.declared.why.ImageWhy.{ImageWhy}
+use Rattle.nn_chain.specs.declared.why.ImageWhy.TheVariants.{Fault}
 use Rattle.nn_chain.specs.Folder.{Folder, folder_at, HasSeen}
 use Rattle.nn_chain.specs.Images.{HasIntact, HasNoImage}
 use Rattle.nn_chain.specs.Chain.{Reached, IsChain}
@@ -21,6 +23,7 @@ use Rattle.nn_pick.specs.declared.fault.OpenFault.TheVariants.{Refused, Failed, 
 use Rattle.nn_pick.specs.declared.intent.Intent.{Intent}
 use Rattle.nn_pick.specs.declared.refusal.Refusal.{Refusal}
 use Rattle.nn_pick.specs.declared.refusal.Refusal.TheVariants.{BadVersion, Gap, Spent}
+use Rattle.nn_pick.specs.declared.refusal.Refusal.TheVariants as refusal
 use Rattle.nn_choose.specs.declared.best.Best.{Best}
 use Rattle.nn_choose.specs.declared.best.Best.TheVariants.{Chain, NoImage}
 use Rattle.nn_choose.specs.declared.served.Lead.{Lead}
@@ -47,11 +50,19 @@ pub record Picks (dirs : Dirs) (intent : Intent) (ns : Namespace) (last : ℕ) (
   pub choice : Chooses dirs intent ns last version chosen
   pub states : AreStates dirs found
 
+-- directory i is of the greatest cTime
+abbrev pub IsAhead : Dirs → ℕ → Type 0
+IsAhead dirs i = (version : Version) × (folder : Folder) × HasGreatestCtime dirs i version folder
+
 -- A refusal is the one of these directories, the first of the tests that applies.
 abbrev pub IsRefusedTruly : Dirs → Intent → OpenFault → Type 0
 IsRefusedTruly dirs intent (Refused refusal) = Refuses dirs intent refusal
 IsRefusedTruly dirs intent (Failed i) = Unit {0}
 IsRefusedTruly dirs intent Memory = Unit {0}
+
+-- Want of memory is never called a fault of an image.
+abbrev pub NeverMemory : OpenFault → Type 0
+NeverMemory fault = (i : DirNo) → fault ≢ Refused (refusal.NoImage i (Fault image_fault.Memory))
 
 -- ---- on the way
 
@@ -113,10 +124,10 @@ abbrev pub IsLoaded : {T : Type 0} → (T → Namespace) → Folder → Version 
 IsLoaded meaning folder version (Chain it) = IsChain folder version (record { last = it.last; ns = meaning it.tree }) × (it.version ≡ version)
 IsLoaded meaning folder version (NoImage why) = HasNoImage folder version why
 
--- its namespace can be saved
-abbrev pub IsImagedBest : {T : Type 0} → (T → Namespace) → Best T → Type 0
-IsImagedBest meaning (Chain it) = IsImaged (meaning it.tree)
-IsImagedBest meaning (NoImage why) = Unit {0}
+-- Whether or not the host tells: its namespace can be saved, or there is no image for a reason that isn't want of memory.
+abbrev pub IsSoundBest : {T : Type 0} → (T → Namespace) → Best T → Type 0
+IsSoundBest meaning (Chain it) = IsImaged (meaning it.tree)
+IsSoundBest meaning (NoImage why) = why ≢ Fault image_fault.Memory
 
 -- directory i alone is noted
 abbrev pub IsOfOne : {T : Type 0} → ℕ → Best T → Type 0
@@ -134,8 +145,8 @@ IsBest meaning dirs lead n (Chain it) = IsBestChain dirs n (meaning it.tree) it.
 IsBest meaning dirs lead n (NoImage why) = HaveNoImage dirs n lead why
 
 -- directory n is of the greatest cTime, and was loaded
-abbrev pub IsNext : {T : Type 0} → (T → Namespace) → Dirs → ℕ → Best T → Type 0
-IsNext meaning dirs n best = (version : Version) × (folder : Folder) × HasGreatestCtime dirs n version folder × IsLoaded meaning folder version best
+abbrev pub IsNextLoaded : {T : Type 0} → (T → Namespace) → Dirs → ℕ → Best T → Type 0
+IsNextLoaded meaning dirs n best = (version : Version) × (folder : Folder) × HasGreatestCtime dirs n version folder × IsLoaded meaning folder version best
 
 -- ---- seen_txid
 

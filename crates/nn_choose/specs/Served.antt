@@ -1,5 +1,5 @@
 -- What serves in each of several directories, as it was read: what sets one against the others, and the one of the greatest cTime.
-use Rattle.std.specs.Prelude.{◌≡◌, ℕ, ℤ, ◌<◌, ◌≤◌, Bool, List, length, slice_index_or, int_lt, Option, Some, None, option_map, if◌then◌else◌}
+use Rattle.std.specs.Prelude.{◌≡◌, ◌↔◌, ℕ, ℤ, ◌<◌, ◌≤◌, Bool, true, List, length, slice_index_or, int_lt, Option, Some, None, option_map, if◌then◌else◌}
 use Rattle.nn_base.specs.Limits.{program_layout}
 use Rattle.nn_base.specs.declared.ids.DirNo.{DirNo}
 use Rattle.nn_host.specs.Disk.{Reads}
@@ -69,3 +69,7 @@ pub record IsLead (served : List (Option Served)) (n : ℕ) (lead : Lead) : Type
 abbrev pub IsLeadBelow : List (Option Served) → ℕ → Option Lead → Type 0
 IsLeadBelow served n None = (j : ℕ) → j < n → served_at served j ≡ None
 IsLeadBelow served n (Some lead) = IsLead served n lead
+
+-- of the directories below n those of this cTime
+abbrev pub AreOfCtime : List (Option Served) → ℕ → ℕ → (ℕ → Bool) → Type 0
+AreOfCtime served ctime n are = (i : ℕ) → (are i ≡ true) ↔ ((it : Served) × (i < n) × (served_at served i ≡ Some it) × (it.version.ctime ≡ ctime))

@@ -1,7 +1,7 @@
 // The chain that ends last, of the directories of the greatest cTime.
 ghost use Rattle.std.specs.Prelude.{◌≡◌, ◌+◌, ◌<◌, ◌==◌, ◌||◌};
 ghost use Rattle.nn_base.specs.DirSets.{has};
-ghost use Rattle.nn_choose.specs.Picking.{IsBest, IsImagedBest, IsNext, IsOfOne, IsOfFirst};
+ghost use Rattle.nn_choose.specs.Picking.{IsBest, IsSoundBest, IsNextLoaded, IsOfOne, IsOfFirst};
 
 use nn_base::{DirNo, DirSet, Txid};
 use nn_chain::ImageWhy;
@@ -53,9 +53,9 @@ pub fn better<T: Tree>(best: Best<T>, i: DirNo, next: Best<T>) -> Best<T>
     requires below { i.0 < 8 }
     requires one { IsOfOne i.0 next }
     requires first { IsOfFirst i.0 best }
-    ensures best { (dirs : _) (lead : _) → IsBest T.meaning dirs lead i.0 best → IsNext T.meaning dirs i.0 next → IsBest T.meaning dirs lead (i.0 + 1) result }
+    ensures best { (dirs : _) (lead : _) → IsBest T.meaning dirs lead i.0 best → IsNextLoaded T.meaning dirs i.0 next → IsBest T.meaning dirs lead (i.0 + 1) result }
     ensures first { IsOfFirst (i.0 + 1) result }
-    ensures imaged { IsImagedBest T.meaning best → IsImagedBest T.meaning next → IsImagedBest T.meaning result }
+    ensures sound { IsSoundBest T.meaning best → IsSoundBest T.meaning next → IsSoundBest T.meaning result }
 {
     match next {
         Best::NoImage(_) => best,
@@ -71,9 +71,9 @@ fn later<T: Tree>(before: Furthest<T>, i: DirNo, its: Furthest<T>) -> Furthest<T
     requires below { i.0 < 8 }
     requires one { IsOfOne i.0 (Best.Chain its) }
     requires first { IsOfFirst i.0 (Best.Chain before) }
-    ensures best { (dirs : _) (lead : _) → IsBest T.meaning dirs lead i.0 (Best.Chain before) → IsNext T.meaning dirs i.0 (Best.Chain its) → IsBest T.meaning dirs lead (i.0 + 1) (Best.Chain result) }
+    ensures best { (dirs : _) (lead : _) → IsBest T.meaning dirs lead i.0 (Best.Chain before) → IsNextLoaded T.meaning dirs i.0 (Best.Chain its) → IsBest T.meaning dirs lead (i.0 + 1) (Best.Chain result) }
     ensures first { IsOfFirst (i.0 + 1) (Best.Chain result) }
-    ensures imaged { IsImagedBest T.meaning (Best.Chain before) → IsImagedBest T.meaning (Best.Chain its) → IsImagedBest T.meaning (Best.Chain result) }
+    ensures sound { IsSoundBest T.meaning (Best.Chain before) → IsSoundBest T.meaning (Best.Chain its) → IsSoundBest T.meaning (Best.Chain result) }
 {
     let (end, other) = (before.end(), its.end());
     if end < other {

@@ -4,9 +4,9 @@ ghost use Rattle.nn_base.specs.DirSets.{has};
 ghost use Rattle.nn_base.specs.Limits.{most_dirs};
 ghost use Rattle.nn_tree.specs.Imaged.{IsImaged};
 ghost use Rattle.nn_pick.specs.declared.intent.Intent.TheVariants.{Start};
-ghost use Rattle.nn_choose.specs.Looking.{LookedBy, dirs_of};
+ghost use Rattle.nn_choose.specs.Looking.{LookedBy, dirs_read};
 ghost use Rattle.nn_choose.specs.Served.{AreServed};
-ghost use Rattle.nn_choose.specs.Picking.{Chooses, IsCut, IsRefusedTruly, NoneBefore};
+ghost use Rattle.nn_choose.specs.Picking.{Chooses, IsCut, IsRefusedTruly, NeverMemory, NoneBefore};
 
 use crate::best::Furthest;
 use crate::clashes::clash;
@@ -27,12 +27,13 @@ pub fn choose<H: Host, T: Tree>(
 ) -> Result<Furthest<T>, OpenFault>
     requires count { length served.now ≡ (H.state host.old).count }
     requires few { length served.now ≤ most_dirs }
-    requires served { H.told → AreServed (dirs_of (H.state host.old)) served.now }
-    requires passed { H.told → NoneBefore (dirs_of (H.state host.old)) 2 }
-    ensures ok { H.told → IfOk result (λ it. Chooses (dirs_of (H.state host.old)) Start (T.meaning it.tree) it.last it.version (has it.dirs)) }
-    ensures imaged { H.told → IfOk result (λ it. IsImaged (T.meaning it.tree)) }
+    requires served { H.told → AreServed (dirs_read (H.state host.old)) served.now }
+    requires passed { H.told → NoneBefore (dirs_read (H.state host.old)) 2 }
+    ensures ok { H.told → IfOk result (λ it. Chooses (dirs_read (H.state host.old)) Start (T.meaning it.tree) it.last it.version (has it.dirs)) }
+    ensures imaged { IfOk result (λ it. IsImaged (T.meaning it.tree)) }
     ensures within { IfOk result (λ it. ((i : _) → has it.dirs i ≡ true → i < (H.state host.old).count) × (it.last < 2 ^ 62)) }
-    ensures refused { H.told → IfErr result (IsRefusedTruly (dirs_of (H.state host.old)) Start) }
+    ensures refused { H.told → IfErr result (IsRefusedTruly (dirs_read (H.state host.old)) Start) }
+    ensures memory { IfErr result NeverMemory }
     ensures kept { LookedBy H.told (H.state host.old) (H.state host.new) result }
 {
     let Some(lead) = lead_of(served) else {

@@ -1,10 +1,11 @@
 // VERSIONs that don't go together, or that this program doesn't read.
 ghost use Rattle.std.specs.Prelude.{◌≡◌, ◌<◌, ◌≤◌, length, IfSome, IfNone};
 ghost use Rattle.nn_base.specs.Limits.{most_dirs};
+ghost use Rattle.nn_pick.specs.declared.fault.OpenFault.TheVariants.{Refused};
 ghost use Rattle.nn_pick.specs.Refused.{first_refused};
 ghost use Rattle.nn_pick.specs.Refusing.{first_difference};
 ghost use Rattle.nn_choose.specs.Served.{IsFirstOf, mismatch_in, future_in, foreign_in, served_at as served_in};
-ghost use Rattle.nn_choose.specs.Picking.{IsClash, NoClash};
+ghost use Rattle.nn_choose.specs.Picking.{IsClash, NoClash, NeverMemory};
 
 use crate::served::{Lead, Served, served_at};
 use nn_base::DirNo;
@@ -18,6 +19,7 @@ pub fn clash(served: &[Option<Served>]) -> Option<Refusal>
     requires { length served.now ≤ most_dirs }
     ensures some { IfSome result (IsClash served.now) }
     ensures none { IfNone result (NoClash served.now) }
+    ensures memory { IfSome result (λ refusal. NeverMemory (Refused refusal)) }
 {
     let first = first_served(served)?;
     if let Some(refusal) = mismatch(served, &first) {

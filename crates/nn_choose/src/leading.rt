@@ -1,10 +1,13 @@
 // The directories of the greatest cTime.
-ghost use Rattle.std.specs.Prelude.{◌≡◌, ◌≢◌, ◌+◌, ◌<◌, ◌≤◌, length, Some, IfSome, IfNone};
+ghost use Rattle.std.specs.Prelude.{◌≡◌, ◌≢◌, ◌↔◌, ◌+◌, ◌<◌, ◌≤◌, true, length, Some, IfSome, IfNone};
+ghost use Rattle.nn_base.specs.DirSets.{has};
 ghost use Rattle.nn_base.specs.Limits.{most_dirs};
-ghost use Rattle.nn_choose.specs.Served.{IsLeadBelow, served_at as served_in};
+ghost use Rattle.nn_pick.specs.Dirs.{Dirs};
+ghost use Rattle.nn_choose.specs.Served.{AreServed, IsLeadBelow, AreOfCtime, served_at as served_in};
+ghost use Rattle.nn_choose.specs.Picking.{IsAhead};
 
 use crate::served::{Lead, Served, served_at};
-use nn_base::DirNo;
+use nn_base::{DirNo, DirSet};
 
 /// The lowest directory of the greatest cTime. None where none is formatted.
 pub fn lead_of(served: &[Option<Served>]) -> Option<Lead>
@@ -35,6 +38,33 @@ fn lead_to(served: &[Option<Served>], i: usize, lead: Option<Lead>) -> Option<Le
             served: it,
         }),
     }
+}
+
+/// The directories of the greatest cTime.
+pub fn ahead(served: &[Option<Served>]) -> DirSet
+    requires { length served.now ≤ most_dirs }
+    ensures ahead { (dirs : Dirs) → AreServed dirs served.now → (i : _) → (has result i ≡ true) ↔ IsAhead dirs i }
+    ensures within { (i : _) → has result i ≡ true → i < length served.now }
+{
+    match lead_of(served) {
+        Some(lead) => with_ctime(served, lead.served.version.ctime),
+        None => DirSet::none(),
+    }
+}
+
+/// The directories of this cTime.
+fn with_ctime(served: &[Option<Served>], ctime: u64) -> DirSet
+    requires { length served.now ≤ most_dirs }
+    ensures { AreOfCtime served.now ctime (length served.now) (has result) }
+{
+    let mut set = DirSet::none();
+    for i in 0..served.len() {
+        let Some(_) = at_ctime(served, DirNo(i as u8), ctime) else {
+            continue;
+        };
+        set = set.with(DirNo(i as u8));
+    }
+    set
 }
 
 /// What serves in this directory, where it is of this cTime.

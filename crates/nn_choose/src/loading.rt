@@ -6,8 +6,8 @@ ghost use Rattle.nn_tree.specs.Imaged.{IsImaged};
 ghost use Rattle.nn_chain.specs.Folder.{folder_at};
 ghost use Rattle.nn_pick.specs.Dirs.{IsGreatestSeen};
 ghost use Rattle.nn_choose.specs.Served.{AreServed, IsLead};
-ghost use Rattle.nn_choose.specs.Looking.{LookedBy, dirs_of};
-ghost use Rattle.nn_choose.specs.Picking.{IsBestChain, IsImagedBest, IsLoaded, IsOfOne, NoneBefore, IsRefusedAnyway};
+ghost use Rattle.nn_choose.specs.Looking.{LookedBy, dirs_read};
+ghost use Rattle.nn_choose.specs.Picking.{IsBestChain, IsSoundBest, IsLoaded, IsOfOne, NoneBefore, IsRefusedAnyway, NeverMemory};
 
 use crate::best::{Best, Furthest, better};
 use crate::leading::at_ctime;
@@ -31,12 +31,13 @@ pub fn load_best<H: Host, T: Tree>(
     requires count { length served.now ≡ (H.state host.old).count }
     requires few { length served.now ≤ most_dirs }
     requires lead { IsLead served.now (length served.now) lead.now }
-    requires served { H.told → AreServed (dirs_of (H.state host.old)) served.now }
-    requires passed { H.told → NoneBefore (dirs_of (H.state host.old)) 7 }
-    ensures ok { H.told → IfOk result (λ it. IsBestChain (dirs_of (H.state host.old)) (H.state host.old).count (T.meaning it.tree) it.last it.version (has it.dirs)) }
-    ensures imaged { H.told → IfOk result (λ it. IsImaged (T.meaning it.tree)) }
+    requires served { H.told → AreServed (dirs_read (H.state host.old)) served.now }
+    requires passed { H.told → NoneBefore (dirs_read (H.state host.old)) 7 }
+    ensures ok { H.told → IfOk result (λ it. IsBestChain (dirs_read (H.state host.old)) (H.state host.old).count (T.meaning it.tree) it.last it.version (has it.dirs)) }
+    ensures imaged { IfOk result (λ it. IsImaged (T.meaning it.tree)) }
     ensures within { IfOk result (λ it. (j : _) → has it.dirs j ≡ true → j < (H.state host.old).count) }
-    ensures refused { H.told → IfErr result (IsRefusedAnyway (dirs_of (H.state host.old))) }
+    ensures refused { H.told → IfErr result (IsRefusedAnyway (dirs_read (H.state host.old))) }
+    ensures memory { IfErr result NeverMemory }
     ensures kept { LookedBy H.told (H.state host.old) (H.state host.new) result }
 {
     let mut best = load_at(alloc, host, lead.dir, &lead.served)?;
@@ -62,7 +63,7 @@ fn load_at<H: Host, T: Tree>(
     requires below { i.0 < (H.state host.old).count }
     requires few { i.0 < 8 }
     ensures ok { H.told → IfOk result (IsLoaded T.meaning (folder_at ((H.state host.old).reads i.0) it.now.sub) it.now.version) }
-    ensures imaged { H.told → IfOk result (IsImagedBest T.meaning) }
+    ensures sound { IfOk result (IsSoundBest T.meaning) }
     ensures one { IfOk result (IsOfOne i.0) }
     ensures unrefused { IfErr result (λ fault. (refusal : _) → fault ≢ OpenFault.Refused refusal) }
     ensures kept { LookedBy H.told (H.state host.old) (H.state host.new) result }
@@ -89,8 +90,8 @@ pub fn greatest_seen<H: Host>(
     requires count { length served.now ≡ (H.state host.old).count }
     requires few { length served.now ≤ most_dirs }
     requires lead { IsLead served.now (length served.now) lead.now }
-    requires served { H.told → AreServed (dirs_of (H.state host.old)) served.now }
-    ensures ok { H.told → IfOk result (IsGreatestSeen (dirs_of (H.state host.old))) }
+    requires served { H.told → AreServed (dirs_read (H.state host.old)) served.now }
+    ensures ok { H.told → IfOk result (IsGreatestSeen (dirs_read (H.state host.old))) }
     ensures unrefused { IfErr result (λ fault. (refusal : _) → fault ≢ OpenFault.Refused refusal) }
     ensures kept { LookedBy H.told (H.state host.old) (H.state host.new) result }
 {

@@ -4,7 +4,7 @@ ghost use Rattle.nn_marks.specs.VersionFaults.{fault_of};
 ghost use Rattle.nn_marks.specs.VersionText.{IsVersionText};
 ghost use Rattle.nn_chain.specs.Folder.{folder_at, HasVersion};
 ghost use Rattle.nn_choose.specs.Looking.{LookedBy};
-ghost use Rattle.nn_choose.specs.Picking.{IsBadVersion, IsSeen};
+ghost use Rattle.nn_choose.specs.Picking.{IsBadVersion, IsSeen, NeverMemory};
 
 use nn_base::limits::MOST_VERSION;
 use nn_base::{DirNo, FileName, Sub};
@@ -24,6 +24,7 @@ pub fn version_at<H: Host>(
     requires { i.0 < (H.state host.old).count }
     ensures ok { H.told → IfOk result (HasVersion (folder_at ((H.state host.old).reads i.0) sub)) }
     ensures refused { H.told → IfErr result (IsBadVersion i (folder_at ((H.state host.old).reads i.0) sub)) }
+    ensures memory { IfErr result NeverMemory }
     ensures kept { LookedBy H.told (H.state host.old) (H.state host.new) result }
 {
     match read_all(alloc, host, i, sub, FileName::Version, MOST_VERSION as u64) {

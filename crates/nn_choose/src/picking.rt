@@ -1,13 +1,14 @@
 // The choice among several directories.
-ghost use Rattle.std.specs.Prelude.{◌≡◌, ◌<◌, ◌^◌, true, IfOk, IfErr};
+ghost use Rattle.std.specs.Prelude.{◌≡◌, ◌↔◌, ◌<◌, ◌^◌, true, IfOk, IfErr};
 ghost use Rattle.nn_base.specs.DirSets.{has};
 ghost use Rattle.nn_tree.specs.Imaged.{IsImaged};
 ghost use Rattle.nn_pick.specs.declared.intent.Intent.TheVariants.{Start};
 ghost use Rattle.nn_state.specs.Bays.{AreFound};
-ghost use Rattle.nn_choose.specs.Looking.{LookedBy, dirs_of};
-ghost use Rattle.nn_choose.specs.Picking.{IsRefusedTruly, Picks};
+ghost use Rattle.nn_choose.specs.Looking.{LookedBy, dirs_read};
+ghost use Rattle.nn_choose.specs.Picking.{IsAhead, IsRefusedTruly, NeverMemory, Picks};
 
 use crate::choosing::choose;
+use crate::leading::ahead;
 use crate::states::survey;
 use crate::versions::versions;
 use nn_base::{DirSet, Txid};
@@ -29,6 +30,8 @@ pub struct Picked<T: Tree> {
     pub version: Version,
     /// The directories of the greatest rank.
     pub chosen: DirSet,
+    /// The directories of the greatest cTime. The chosen are among them, and the others of them lack records or an image.
+    pub ahead: DirSet,
     /// The state of each directory, in its place.
     pub found: Vec<Found>,
 }
@@ -41,11 +44,13 @@ pub struct Picked<T: Tree> {
 /// Like Hadoop's `FSImage.recoverTransitionRead` and `FSImageTransactionalStorageInspector`, but that directories are
 /// compared by how far their records go.
 pub fn pick<H: Host, T: Tree>(alloc: Global, host: &mut H) -> Result<Picked<T>, OpenFault>
-    ensures ok { H.told → IfOk result (λ it. Picks (dirs_of (H.state host.old)) Start (T.meaning it.tree) it.last it.version (has it.chosen) it.found.items) }
-    ensures refused { H.told → IfErr result (IsRefusedTruly (dirs_of (H.state host.old)) Start) }
-    ensures imaged { H.told → IfOk result (λ it. IsImaged (T.meaning it.tree)) }
+    ensures ok { H.told → IfOk result (λ it. Picks (dirs_read (H.state host.old)) Start (T.meaning it.tree) it.last it.version (has it.chosen) it.found.items) }
+    ensures refused { H.told → IfErr result (IsRefusedTruly (dirs_read (H.state host.old)) Start) }
+    ensures memory { IfErr result NeverMemory }
+    ensures ahead { H.told → IfOk result (λ it. (i : _) → (has it.ahead i ≡ true) ↔ IsAhead (dirs_read (H.state host.old)) i) }
+    ensures imaged { IfOk result (λ it. IsImaged (T.meaning it.tree)) }
     ensures room { IfOk result (λ it. it.last < 2 ^ 62) }
-    ensures placed { IfOk result (λ it. AreFound (H.state host.old).count it.found.items × ((i : _) → has it.chosen i ≡ true → i < (H.state host.old).count)) }
+    ensures placed { IfOk result (λ it. AreFound (H.state host.old).count it.found.items × ((i : _) → has it.chosen i ≡ true → i < (H.state host.old).count) × ((i : _) → has it.ahead i ≡ true → i < (H.state host.old).count)) }
     ensures kept { LookedBy H.told (H.state host.old) (H.state host.new) result }
 {
     let states = survey(alloc, host)?;
@@ -56,6 +61,7 @@ pub fn pick<H: Host, T: Tree>(alloc: Global, host: &mut H) -> Result<Picked<T>, 
         last: best.last,
         version: best.version,
         chosen: best.dirs,
+        ahead: ahead(&served),
         found: states.found,
     })
 }

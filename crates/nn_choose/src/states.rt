@@ -7,8 +7,8 @@ ghost use Rattle.nn_state.specs.Table.{seven_of, table_of};
 ghost use Rattle.nn_base.specs.Limits.{most_dirs};
 ghost use Rattle.nn_state.specs.Bays.{AreFound};
 ghost use Rattle.nn_pick.specs.Refused.{unusable as unusable_at};
-ghost use Rattle.nn_choose.specs.Looking.{LookedBy, dirs_of};
-ghost use Rattle.nn_choose.specs.Picking.{AreStates, AreServing, NoneBefore, IsRefusedAnyway};
+ghost use Rattle.nn_choose.specs.Looking.{LookedBy, dirs_read};
+ghost use Rattle.nn_choose.specs.Picking.{AreStates, AreServing, NoneBefore, IsRefusedAnyway, NeverMemory};
 
 use nn_base::{DirNo, Sub};
 use nn_host::{Failed, Host};
@@ -26,11 +26,12 @@ pub struct States {
 
 /// Looks at each directory, in order. The first that is missing or inconsistent refuses.
 pub fn survey<H: Host>(alloc: Global, host: &mut H) -> Result<States, OpenFault>
-    ensures ok { H.told → IfOk result (λ it. AreStates (dirs_of (H.state host.old)) it.found.items × AreServing (dirs_of (H.state host.old)) it.serving.items) }
+    ensures ok { H.told → IfOk result (λ it. AreStates (dirs_read (H.state host.old)) it.found.items × AreServing (dirs_read (H.state host.old)) it.serving.items) }
     ensures placed { IfOk result (λ it. AreFound (H.state host.old).count it.found.items × (length it.serving.items ≡ (H.state host.old).count)) }
     ensures few { OnOk result ((H.state host.old).count ≤ most_dirs) }
-    ensures passed { H.told → OnOk result (NoneBefore (dirs_of (H.state host.old)) 2) }
-    ensures refused { H.told → IfErr result (IsRefusedAnyway (dirs_of (H.state host.old))) }
+    ensures passed { H.told → OnOk result (NoneBefore (dirs_read (H.state host.old)) 2) }
+    ensures refused { H.told → IfErr result (IsRefusedAnyway (dirs_read (H.state host.old))) }
+    ensures memory { IfErr result NeverMemory }
     ensures kept { LookedBy H.told (H.state host.old) (H.state host.new) result }
 {
     let mut states = States {
@@ -52,6 +53,7 @@ fn state_at<H: Host>(host: &mut H, i: DirNo) -> Result<(Found, Option<Sub>), Ope
     ensures serving { H.told → IfOk result (λ it. it.1 ≡ serving_of ((H.state host.old).reads i.0)) }
     ensures placed { IfOk result (λ it. (dir_of it.0 ≡ i) × (state_of it.0 ≢ NonExistent)) }
     ensures refused { H.told → IfErr result (λ why. (refusal : _) → why ≡ OpenFault.Refused refusal → unusable_at i.0 (table_of (seven_of ((H.state host.old).reads i.0))) ≡ Some refusal) }
+    ensures memory { IfErr result NeverMemory }
     ensures kept { LookedBy H.told (H.state host.old) (H.state host.new) result }
 {
     match look(host, i) {
@@ -65,6 +67,7 @@ fn state_in(i: DirNo, seven: Seven) -> Result<(Found, Option<Sub>), OpenFault>
     ensures serving { IfOk result (λ it. it.1 ≡ (seat_of seven).current) }
     ensures placed { IfOk result (λ it. (dir_of it.0 ≡ i) × (state_of it.0 ≢ NonExistent)) }
     ensures refused { IfErr result (λ why. (refusal : _) × (why ≡ OpenFault.Refused refusal) × (unusable_at i.0 (table_of seven) ≡ Some refusal)) }
+    ensures memory { IfErr result NeverMemory }
 {
     match found(i, seven) {
         Ok(Found::NonExistent(_)) => Err(OpenFault::Refused(Refusal::Missing(i))),

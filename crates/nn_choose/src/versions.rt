@@ -1,8 +1,8 @@
 // The VERSIONs of all formatted directories.
 ghost use Rattle.std.specs.Prelude.{◌≡◌, ◌<◌, length, IfOk, IfErr};
 ghost use Rattle.nn_state.specs.Seat.{serving as serving_of};
-ghost use Rattle.nn_choose.specs.Looking.{LookedBy, dirs_of};
-ghost use Rattle.nn_choose.specs.Picking.{AreServing, IsBadVersionOf, NoneBefore, IsRefusedAnyway};
+ghost use Rattle.nn_choose.specs.Looking.{LookedBy, dirs_read};
+ghost use Rattle.nn_choose.specs.Picking.{AreServing, IsBadVersionOf, NoneBefore, IsRefusedAnyway, NeverMemory};
 ghost use Rattle.nn_choose.specs.Served.{AreServed, ServesAs};
 
 use crate::marks::version_at;
@@ -20,11 +20,12 @@ pub fn versions<H: Host>(
     serving: &[Option<Sub>],
 ) -> Result<Vec<Option<Served>>, OpenFault>
     requires count { length serving.now ≡ (H.state host.old).count }
-    requires serving { H.told → AreServing (dirs_of (H.state host.old)) serving.now }
-    requires passed { H.told → NoneBefore (dirs_of (H.state host.old)) 2 }
-    ensures ok { H.told → IfOk result (λ served. AreServed (dirs_of (H.state host.old)) served.items) }
+    requires serving { H.told → AreServing (dirs_read (H.state host.old)) serving.now }
+    requires passed { H.told → NoneBefore (dirs_read (H.state host.old)) 2 }
+    ensures ok { H.told → IfOk result (λ served. AreServed (dirs_read (H.state host.old)) served.items) }
     ensures count { IfOk result (λ served. length served.items ≡ (H.state host.old).count) }
-    ensures refused { H.told → IfErr result (IsRefusedAnyway (dirs_of (H.state host.old))) }
+    ensures refused { H.told → IfErr result (IsRefusedAnyway (dirs_read (H.state host.old))) }
+    ensures memory { IfErr result NeverMemory }
     ensures kept { LookedBy H.told (H.state host.old) (H.state host.new) result }
 {
     let mut served = Vec::new(alloc);
@@ -45,6 +46,7 @@ fn served_at<H: Host>(
     requires serving { H.told → serving ≡ serving_of ((H.state host.old).reads i.0) }
     ensures ok { H.told → IfOk result (ServesAs ((H.state host.old).reads i.0)) }
     ensures refused { H.told → IfErr result (IsBadVersionOf i ((H.state host.old).reads i.0)) }
+    ensures memory { IfErr result NeverMemory }
     ensures kept { LookedBy H.told (H.state host.old) (H.state host.new) result }
 {
     match serving {

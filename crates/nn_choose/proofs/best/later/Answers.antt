@@ -25,5 +25,5 @@ returns-clause-best g c = λ dirs lead best next. with_noted g.T.Tree.meaning di
 pub returns-clause-first : goal.returns-clause-first
 returns-clause-first g c = noted_more c.args.i.0 c.args.before (has c.noting.result.dirs) c.requires.first c.noting.ensures.noted
 
-pub returns-clause-imaged : goal.returns-clause-imaged
-returns-clause-imaged g c = λ before its. subst (λ t. IsImaged (g.T.Tree.meaning t)) (sym c.noting.ensures.same.0) before
+pub returns-clause-sound : goal.returns-clause-sound
+returns-clause-sound g c = λ before its. subst (λ t. IsImaged (g.T.Tree.meaning t)) (sym c.noting.ensures.same.0) before

@@ -3,7 +3,7 @@ use Rattle.std.specs.Prelude.{length}
 use Rattle.nn_base.specs.DirSets.{has}
 use Rattle.nn_pick.specs.declared.intent.Intent.TheVariants.{Start}
 use Rattle.nn_pick.specs.Dirs.{Dirs, IsGreatestSeen}
-use Rattle.nn_choose.specs.Looking.{dirs_of}
+use Rattle.nn_choose.specs.Looking.{dirs_read}
 use Rattle.nn_choose.specs.Served.{AreServed, IsLeadBelow}
 use Rattle.nn_choose.specs.Picking.{IsRefusedTruly}
 use Rattle.nn_choose.proofs.AheadLemmas.{refuses_bare, passed_versions}
@@ -15,12 +15,12 @@ use Rattle.nn_choose.proofs.choosing.choose.Goals as goal
 -- ---- none is formatted, or two don't go together
 
 pub returns-in_default-clause-refused : goal.returns-in_default-clause-refused
-returns-in_default-clause-refused g c = λ tells. refuses_bare (dirs_of (g.H.Host.state c.args.host.now)) c.args.served.now (c.requires.served tells) (subst (IsLeadBelow c.args.served.now (length c.args.served.now)) c.in_default.is c.lead_of.ensures) (c.requires.passed tells) Start
+returns-in_default-clause-refused g c = λ tells. refuses_bare (dirs_read (g.H.Host.state c.args.host.now)) c.args.served.now (c.requires.served tells) (subst (IsLeadBelow c.args.served.now (length c.args.served.now)) c.in_default.is c.lead_of.ensures) (c.requires.passed tells) Start
 
 pub returns-in-Some-clash-clause-refused : goal.returns-in-Some-clash-clause-refused
 returns-in-Some-clash-clause-refused g c = λ tells.
     let lead = subst (IsLeadBelow c.args.served.now (length c.args.served.now)) c.in-Some.is c.lead_of.ensures in
-    c.in-Some-clash.ensures.some (dirs_of (g.H.Host.state c.args.host.now)) Start (c.requires.served tells) (passed_versions (dirs_of (g.H.Host.state c.args.host.now)) c.args.served.now (c.requires.served tells) c.in-Some.lead lead (c.requires.passed tells))
+    c.in-Some-clash.ensures.some (dirs_read (g.H.Host.state c.args.host.now)) Start (c.requires.served tells) (passed_versions (dirs_read (g.H.Host.state c.args.host.now)) c.args.served.now (c.requires.served tells) c.in-Some.lead lead (c.requires.passed tells))
 
 -- ---- loading
 
@@ -30,10 +30,10 @@ load_best-requires-clause-lead g c = subst (IsLeadBelow c.args.served.now (lengt
 pub load_best-requires-clause-passed : goal.load_best-requires-clause-passed
 load_best-requires-clause-passed g c = λ tells.
     let lead = subst (IsLeadBelow c.args.served.now (length c.args.served.now)) c.in-Some.is c.lead_of.ensures in
-    c.in_default-clash.ensures.none (dirs_of (g.H.Host.state c.args.host.now)) (c.requires.served tells) (passed_versions (dirs_of (g.H.Host.state c.args.host.now)) c.args.served.now (c.requires.served tells) c.in-Some.lead lead (c.requires.passed tells))
+    c.in_default-clash.ensures.none (dirs_read (g.H.Host.state c.args.host.now)) (c.requires.served tells) (passed_versions (dirs_read (g.H.Host.state c.args.host.now)) c.args.served.now (c.requires.served tells) c.in-Some.lead lead (c.requires.passed tells))
 
 pub returns-in_err-best-clause-refused : goal.returns-in_err-best-clause-refused
-returns-in_err-best-clause-refused g c = λ tells. handed_on (IsRefusedTruly (dirs_of (g.H.Host.state c.args.host.now)) Start) c.from_residual.result c.in_err-best.field-0.0 c.from_residual.ensures.1 (c.in_err-best.ensures.refused tells Start)
+returns-in_err-best-clause-refused g c = λ tells. handed_on (IsRefusedTruly (dirs_read (g.H.Host.state c.args.host.now)) Start) c.from_residual.result c.in_err-best.field-0.0 c.from_residual.ensures.1 (c.in_err-best.ensures.refused tells Start)
 
 pub returns-in_err-best-clause-kept : goal.returns-in_err-best-clause-kept
 returns-in_err-best-clause-kept g c = looked_on g.H.Host.told (g.H.Host.state c.args.host.now) (g.H.Host.state c.load_best.new.host) c.from_residual.result c.in_err-best.field-0.0 c.from_residual.ensures.1 c.in_err-best.ensures.kept
@@ -50,8 +50,8 @@ pub greatest_seen-requires-clause-served : goal.greatest_seen-requires-clause-se
 greatest_seen-requires-clause-served g c = λ tells. moved (λ dirs. AreServed dirs c.args.served.now) c.in_ok-best.ensures.kept tells (c.requires.served tells)
 
 pub returns-in_err-seen-clause-refused : goal.returns-in_err-seen-clause-refused
-returns-in_err-seen-clause-refused g c = λ tells. handed_on (IsRefusedTruly (dirs_of (g.H.Host.state c.args.host.now)) Start) c.from_residual-in_err-seen.result c.in_err-seen.field-0.0 c.from_residual-in_err-seen.ensures.1
-    (anyway_unrefused (dirs_of (g.H.Host.state c.args.host.now)) c.in_err-seen.field-0.0 c.in_err-seen.ensures.unrefused Start)
+returns-in_err-seen-clause-refused g c = λ tells. handed_on (IsRefusedTruly (dirs_read (g.H.Host.state c.args.host.now)) Start) c.from_residual-in_err-seen.result c.in_err-seen.field-0.0 c.from_residual-in_err-seen.ensures.1
+    (anyway_unrefused (dirs_read (g.H.Host.state c.args.host.now)) c.in_err-seen.field-0.0 c.in_err-seen.ensures.unrefused Start)
 
 pub returns-in_err-seen-clause-kept : goal.returns-in_err-seen-clause-kept
 returns-in_err-seen-clause-kept g c = looked_fault g.H.Host.told (g.H.Host.state c.args.host.now) (g.H.Host.state c.load_best.new.host) (g.H.Host.state c.greatest_seen.new.host) c.from_residual-in_err-seen.result c.in_err-seen.field-0.0 c.from_residual-in_err-seen.ensures.1 c.in_ok-best.ensures.kept c.in_err-seen.ensures.kept
@@ -60,7 +60,7 @@ returns-in_err-seen-clause-kept g c = looked_fault g.H.Host.told (g.H.Host.state
 
 pub returns-in-Some-cut-clause-refused : goal.returns-in-Some-cut-clause-refused
 returns-in-Some-cut-clause-refused g c = λ tells.
-    let dirs = dirs_of (g.H.Host.state c.args.host.now) in
+    let dirs = dirs_read (g.H.Host.state c.args.host.now) in
     let lead = subst (IsLeadBelow c.args.served.now (length c.args.served.now)) c.in-Some.is c.lead_of.ensures in
     let passed = c.in_default-clash.ensures.none dirs (c.requires.served tells) (passed_versions dirs c.args.served.now (c.requires.served tells) c.in-Some.lead lead (c.requires.passed tells)) in
     cut_refuses dirs (g.T.Tree.meaning c.in_ok-best.best.tree) c.in_ok-best.best.last c.in_ok-best.best.version (has c.in_ok-best.best.dirs) (c.in_ok-best.ensures.ok tells) passed c.in_ok-seen.seen
@@ -71,7 +71,7 @@ returns-in-Some-cut-clause-kept g c = looked_trans c.in_ok-best.ensures.kept c.i
 
 pub returns-in-None-clause-ok : goal.returns-in-None-clause-ok
 returns-in-None-clause-ok g c = λ tells.
-    let dirs = dirs_of (g.H.Host.state c.args.host.now) in
+    let dirs = dirs_read (g.H.Host.state c.args.host.now) in
     let lead = subst (IsLeadBelow c.args.served.now (length c.args.served.now)) c.in-Some.is c.lead_of.ensures in
     let passed = c.in_default-clash.ensures.none dirs (c.requires.served tells) (passed_versions dirs c.args.served.now (c.requires.served tells) c.in-Some.lead lead (c.requires.passed tells)) in
     chooses dirs (g.T.Tree.meaning c.in_ok-best.best.tree) c.in_ok-best.best.last c.in_ok-best.best.version (has c.in_ok-best.best.dirs) (c.in_ok-best.ensures.ok tells) passed c.in_ok-seen.seen

@@ -1,14 +1,14 @@
 use Rattle.std.proofs.Common.{◌≡◌, ap, arith}
 use Rattle.nn_base.specs.declared.ids.DirNo.{DirNo}
 use Rattle.nn_pick.specs.declared.fault.OpenFault.TheVariants.{Memory}
-use Rattle.nn_choose.specs.Looking.{dirs_of}
+use Rattle.nn_choose.specs.Looking.{dirs_read}
 use Rattle.nn_choose.specs.Picking.{IsRefusedAnyway}
 use Rattle.nn_choose.proofs.LookingLemmas.{looked_on, looked_fault, looked_trans, handed_on}
 use Rattle.nn_choose.proofs.StatesLemmas.{surveyed_fault, surveyed_more, all_found, all_states, all_serving, all_usable}
 use Rattle.nn_choose.proofs.states.survey.Goals as goal
 
 pub returns-in_err-found-clause-refused : goal.returns-in_err-found-clause-refused
-returns-in_err-found-clause-refused g c = λ tells. handed_on (IsRefusedAnyway (dirs_of (g.H.Host.state c.args.host.now))) c.from_residual.result c.in_err-found.field-0.0 c.from_residual.ensures.1
+returns-in_err-found-clause-refused g c = λ tells. handed_on (IsRefusedAnyway (dirs_read (g.H.Host.state c.args.host.now))) c.from_residual.result c.in_err-found.field-0.0 c.from_residual.ensures.1
     (surveyed_fault c.loop-i.invariant c.in_err-found.field-0.0 (omega (arith, c.loop-i-test.true, c.count-i-end.ensures.count)) (λ refusal tells is. c.in_err-found.ensures.refused tells refusal is) tells)
 
 pub returns-in_err-found-clause-kept : goal.returns-in_err-found-clause-kept
@@ -35,5 +35,6 @@ returns g c =
       few = omega (arith, c.count-i-end.ensures.count, c.count-i-end.ensures.few);
       passed = λ tells. all_usable c.loop-i.invariant whole tells;
       refused = λ tells. tt;
+      memory = tt;
       kept = c.loop-i.invariant.looked;
     }

@@ -3,7 +3,7 @@ use Rattle.std.specs.Prelude.{slice_index_or}
 use Rattle.nn_host.specs.Disk.{Reads}
 use Rattle.nn_state.specs.Seat.{serving}
 use Rattle.nn_pick.specs.declared.fault.OpenFault.TheVariants.{Memory}
-use Rattle.nn_choose.specs.Looking.{dirs_of}
+use Rattle.nn_choose.specs.Looking.{dirs_read}
 use Rattle.nn_choose.specs.Picking.{IsRefusedAnyway}
 use Rattle.nn_choose.proofs.LookingLemmas.{looked_on, looked_fault, looked_trans, handed_on}
 use Rattle.nn_choose.proofs.VersionsLemmas.{versioned_fault, versioned_more, all_served}
@@ -15,7 +15,7 @@ served_at-requires-clause-serving g c = λ tells.
     ap (λ n. slice_index_or c.args.serving.now n None) c.from.ensures ∙ (c.requires.serving tells).each c.loop-i.i below ∙ ap (λ (r : Reads). serving r) (sym (c.loop-i.invariant.looked.reads tells c.loop-i.i))
 
 pub returns-in_err-it-clause-refused : goal.returns-in_err-it-clause-refused
-returns-in_err-it-clause-refused g c = λ tells. handed_on (IsRefusedAnyway (dirs_of (g.H.Host.state c.args.host.now))) c.from_residual.result c.in_err-it.field-0.0 c.from_residual.ensures.1
+returns-in_err-it-clause-refused g c = λ tells. handed_on (IsRefusedAnyway (dirs_read (g.H.Host.state c.args.host.now))) c.from_residual.result c.in_err-it.field-0.0 c.from_residual.ensures.1
     (versioned_fault c.loop-i.invariant c.in_err-it.field-0.0 (omega (arith, c.loop-i-test.true, c.count-i-end.ensures.count)) c.requires.passed c.in_err-it.ensures.refused tells)
 
 pub returns-in_err-it-clause-kept : goal.returns-in_err-it-clause-kept
@@ -35,5 +35,6 @@ returns g c =
       ok = λ tells. all_served c.loop-i.invariant whole tells;
       count = omega (arith, c.loop-i.invariant.long, whole);
       refused = λ tells. tt;
+      memory = tt;
       kept = c.loop-i.invariant.looked;
     }
