@@ -7,14 +7,14 @@ use Rattle.nn_server.specs.declared.status.Status.{Status}
 use Rattle.nn_server.specs.declared.status.Status.TheVariants.{Memory}
 use Rattle.nn_server.specs.Codes.{code_of}
 use Rattle.nn_top.specs.Wanted.{Wanted, States, Format, Dry, dirs_in}
-use Rattle.nn_top.specs.Commands.{reading_of, HaveNoReading}
-use Rattle.nn_top.specs.Did.{Unread, Did}
+use Rattle.nn_top.specs.Commands.{wanted_by, HaveNoReading}
+use Rattle.nn_top.specs.Did.{Unread, Did, ExitsAs}
 use Rattle.nn_top.proofs.ReadingLemmas.{one_reading, read_or_not}
 use Rattle.nn_cli.specs.Exit.{CanEndBy, ExitsBy}
 
 -- memory ran out before the run
 pub exits_starved : (words : List Bytes) (exit : ℕ) → exit ≡ code_of Memory → ExitsBy words exit
-exits_starved words exit code = record { status = Memory; code = code; read = λ wanted asks. inl refl; unread = λ none. inl refl }
+exits_starved words exit code = record { read = λ wanted asks. inl code; unread = λ none. inl code }
 
 -- of a source that tells nothing, its count alone is spoken of
 counts_alone : {Source : Type 0} (left : Source → Bytes) (faults : Source → ℕ) (before after : Source) (old new : State) (wanted : Wanted) (status : Status) → Did ⊥ ⊥ left faults wanted before after old new status
@@ -39,28 +39,24 @@ counts_alone left faults before after old new Dry status did = record {
 }
 
 -- words with a reading were done
-pub exits_done : {Source : Type 0} (left : Source → Bytes) (faults : Source → ℕ) (before after : Source) (old new : State) (words : List Bytes) (wanted : Wanted) (status : Status) (exit : ℕ) → reading_of words ≡ Some wanted
-    → exit ≡ code_of status → faults before ≡ 0 → old ≡ unfailed_state (length (dirs_in wanted)) → Did ⊥ ⊥ left faults wanted before after old new status → ExitsBy words exit
-exits_done left faults before after old new words wanted status exit asks code unfailed opened did = record {
-  status = status;
-  code = code;
-  read = λ again asks_again. inr (subst (λ (w : Wanted). CanEndBy w status) (one_reading words wanted again asks asks_again) ends);
+pub exits_done : {Source : Type 0} (left : Source → Bytes) (faults : Source → ℕ) (before after : Source) (old new : State) (words : List Bytes) (wanted : Wanted) (exit : ℕ) → wanted_by words ≡ Some wanted
+    → faults before ≡ 0 → old ≡ unfailed_state (length (dirs_in wanted)) → ExitsAs (Did ⊥ ⊥ left faults wanted before after old new) exit → ExitsBy words exit
+exits_done left faults before after old new words wanted exit asks unfailed opened exits = record {
+  read = λ again asks_again. inr (subst (λ (w : Wanted). ExitsAs (CanEndBy w) exit) (one_reading words wanted again asks asks_again) (exits.0, exits.1, ends));
   unread = λ none. absurd (read_or_not words wanted asks none);
 }
   where
-    ends : CanEndBy wanted status
+    ends : CanEndBy wanted exits.0
     ends = (
       faults after,
       new,
-      subst (λ (s : State). Did ⊥ ⊥ (λ n. []) (λ n. n) wanted 0 (faults after) s new status) opened
-          (subst (λ (n : ℕ). Did ⊥ ⊥ (λ n. []) (λ n. n) wanted n (faults after) old new status) unfailed (counts_alone left faults before after old new wanted status did)),
+      subst (λ (s : State). Did ⊥ ⊥ (λ n. []) (λ n. n) wanted 0 (faults after) s new exits.0) opened
+          (subst (λ (n : ℕ). Did ⊥ ⊥ (λ n. []) (λ n. n) wanted n (faults after) old new exits.0) unfailed (counts_alone left faults before after old new wanted exits.0 exits.2)),
     )
 
 -- words without one were answered
-pub exits_unread : {old new : State} (words : List Bytes) (status : Status) (exit : ℕ) → HaveNoReading words → exit ≡ code_of status → old ≡ unfailed_state 0 → Unread ⊥ old new status → ExitsBy words exit
-exits_unread {new = new} words status exit none code opened unread = record {
-  status = status;
-  code = code;
+pub exits_unread : {old new : State} (words : List Bytes) (exit : ℕ) → HaveNoReading words → old ≡ unfailed_state 0 → ExitsAs (Unread ⊥ old new) exit → ExitsBy words exit
+exits_unread {new = new} words exit none opened exits = record {
   read = λ wanted asks. absurd (read_or_not words wanted asks none);
-  unread = λ here. inr (new, subst (λ (s : State). Unread ⊥ s new status) opened unread);
+  unread = λ here. inr (exits.0, exits.1, (new, subst (λ (s : State). Unread ⊥ s new exits.0) opened exits.2));
 }

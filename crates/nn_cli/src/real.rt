@@ -3,12 +3,12 @@ ghost use Rattle.std.specs.Prelude.{◌≡◌, ◌≤◌, Some, length};
 ghost use Rattle.nn_server.specs.Codes.{code_of};
 ghost use Rattle.nn_top.specs.Words.{texts};
 ghost use Rattle.nn_top.specs.Wanted.{dirs_in};
-ghost use Rattle.nn_top.specs.Commands.{reading_of, HaveNoReading};
+ghost use Rattle.nn_top.specs.Commands.{wanted_by, HaveNoReading};
 ghost use Rattle.nn_cli.specs.Exit.{ExitsBy};
 
 use nn_base::NoMemory;
 use nn_files::{FileHost, StdSource};
-use nn_top::{Status, WordsFault, dirs_of, namenode};
+use nn_top::{Status, WordsFault, dirs_of, exit_code};
 use std::alloc::Global;
 use std::rt::Files;
 
@@ -36,12 +36,12 @@ fn run_over<R: Files + Print + Input + Drop>(
     words: &[String],
     dirs: Vec<String>,
 ) -> u8
-    requires { (wanted : _) × (reading_of (texts words.now) ≡ Some wanted) × (texts dirs.items ≡ dirs_in wanted) }
+    requires { (wanted : _) × (wanted_by (texts words.now) ≡ Some wanted) × (texts dirs.items ≡ dirs_in wanted) }
     ensures { ExitsBy (texts words.now) result }
 {
     let mut source = StdSource::new(&rt);
     match FileHost::open(rt, alloc, dirs) {
-        Ok(mut host) => namenode(alloc, words, &mut source, &mut host).code(),
+        Ok(mut host) => exit_code(alloc, words, &mut source, &mut host),
         Err(NoMemory) => starved(),
     }
 }
@@ -53,7 +53,7 @@ fn run_unread<R: Files + Print + Input + Drop>(rt: R, alloc: Global, words: &[St
 {
     let mut source = StdSource::new(&rt);
     match FileHost::open(rt, alloc, Vec::new(alloc)) {
-        Ok(mut host) => namenode(alloc, words, &mut source, &mut host).code(),
+        Ok(mut host) => exit_code(alloc, words, &mut source, &mut host),
         Err(NoMemory) => starved(),
     }
 }

@@ -1,5 +1,5 @@
 -- The last line of a run, behind what its command said.
-use Rattle.std.proofs.Common.{◌≡◌, ◌⊎◌, inl, inr, ⊎_elim, ℕ, Bool, true, false, List, [], ◌∷◌, ◌++◌, take, drop, if◌then◌else◌, Result, Ok, Err, refl, sym, ◌∙◌, ap, subst, append_assoc}
+use Rattle.std.proofs.Common.{◌≡◌, ◌⊎◌, inl, inr, ⊎_elim, ℕ, Bool, false, List, [], ◌∷◌, ◌++◌, take, drop, if◌then◌else◌, Result, Ok, Err, refl, sym, ◌∙◌, ap, subst, append_assoc}
 use Rattle.std.proofs.lemmas.List.{append-nil, take-append-drop}
 use Rattle.nn_base.specs.Paths.{Bytes}
 use Rattle.nn_host.specs.Disk.{Reads}
@@ -11,7 +11,7 @@ use Rattle.nn_server.specs.declared.status.Status.TheVariants as outcome
 use Rattle.nn_server.specs.Came.{is_out_fault, Speaks, TouchesNoDir}
 use Rattle.nn_server.proofs.CameLemmas.{records_nothing, records_as, spoke_records, cut_records}
 use Rattle.nn_top.specs.Lines.{last_line}
-use Rattle.nn_top.specs.Closes.{is_made, IsLast, last_call, ClosesWhole, ClosesCut, Closes, Closing}
+use Rattle.nn_top.specs.Closes.{IsLast, last_call, Closes, Closing}
 
 -- ---- the ways to close
 

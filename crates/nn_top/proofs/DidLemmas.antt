@@ -1,8 +1,8 @@
 -- The record of a command, from the moment when it came to its end on to the return of the run.
-use Rattle.std.proofs.Common.{◌≡◌, ◌⊎◌, inl, inr, ⊎_elim, ℕ, ◌<◌, List, Option, Some, None, refl, sym, ◌∙◌, ap, subst}
+use Rattle.std.proofs.Common.{◌≡◌, ◌⊎◌, ℕ, ◌<◌, List, Option, Some, None, sym, ◌∙◌, subst}
 use Rattle.nn_base.specs.Paths.{Bytes}
 use Rattle.nn_host.specs.Disk.{Disk, Reads}
-use Rattle.nn_host.specs.Moments.{Dir, Entry, State, IsLawful, disk_at}
+use Rattle.nn_host.specs.Moments.{Entry, State, IsLawful, disk_at}
 use Rattle.nn_host.specs.Runs.{Untouched, Throughout, EachDir}
 use Rattle.nn_host.proofs.RunsLemmas.{throughout_trans, throughout_weaker, untouched_trans}
 use Rattle.nn_marks.specs.declared.version.Version.{Version}

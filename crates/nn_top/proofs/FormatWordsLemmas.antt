@@ -8,7 +8,7 @@ use Rattle.std.proofs.lemmas.List.{append-nil}
 use Rattle.std.proofs.lemmas.Slice.Eq.{bytes_eq-Decides}
 use Rattle.nn_top.specs.declared.words.format.Line.{Line}
 use Rattle.nn_top.specs.Words.{Word, texts, is_among, are_dirs}
-use Rattle.nn_top.specs.Parts.{Part, Given, Dir, Mark, parts_of, is_dir, is_line, dirs_of, value_in, values_of}
+use Rattle.nn_top.specs.Parts.{Part, Given, Dir, Mark, parts_of, is_dir, is_line, dirs_among, value_in, values_of}
 use Rattle.nn_top.specs.Wanted.{Wanted}
 use Rattle.nn_top.specs.Commands.{once, cluster_in, format_for, format_in, format_options}
 use Rattle.nn_top.specs.FormatWords.{BeginWith, IsEnd, is_given, begins, given_value, parts_left, Adds, GivenTwice, ReadOptions, ReadLine, IsUnread}
@@ -130,13 +130,13 @@ namespace_twice line value rest some begin = rw (begins_namespace (texts line.re
 -- behind options that were read
 unread_on : (old middle : Line) → ReadOptions old middle → IsUnread middle → IsUnread old
 unread_on old middle read (inl broken) = inl (ap is_line read.parts ∙ (skipped_line read.given (parts_left middle) read.all ∙ broken))
-unread_on old middle read (inr (inl none)) = inr (inl (ap dirs_of read.parts ∙ ((skipped read.given (parts_left middle) read.all).dirs ∙ none)))
+unread_on old middle read (inr (inl none)) = inr (inl (ap dirs_among read.parts ∙ ((skipped read.given (parts_left middle) read.all).dirs ∙ none)))
 unread_on old middle read (inr (inr twice)) = inr (inr (subst (λ ps. GivenTwice old ps) (sym read.parts) (twice_on read.given (parts_left middle) old middle read.added twice)))
 
 pub read_on : (old middle new : Line) (dirs : List Word) → ReadOptions old middle → ReadLine middle new dirs → ReadLine old new dirs
 read_on old middle new dirs read line = record {
   whole = ap is_line read.parts ∙ (skipped_line read.given (parts_left middle) read.all ∙ line.whole);
-  dirs = ap dirs_of read.parts ∙ ((skipped read.given (parts_left middle) read.all).dirs ∙ line.dirs);
+  dirs = ap dirs_among read.parts ∙ ((skipped read.given (parts_left middle) read.all).dirs ∙ line.dirs);
   added = subst (λ ps. Adds ps old new) (sym read.parts) (adds_on read.given (parts_left middle) old middle new read.added line.added);
 }
 
@@ -151,7 +151,7 @@ no_values option dirs = ap (values_of option) (sym (append-nil (map Dir dirs))) 
 pub marked : (line : Line) (dirs : List Word) → parts_left line ≡ Mark ∷ map Dir dirs → ReadLine line line dirs
 marked line dirs is = record {
   whole = ap is_line is ∙ (marked_line dirs).0;
-  dirs = ap dirs_of is ∙ (marked_line dirs).1;
+  dirs = ap dirs_among is ∙ (marked_line dirs).1;
   added = rw is (record {
     cluster = sym (ap (λ vs. given_value line.cluster ++ vs) (no_values (codes "--cluster") dirs) ∙ append-nil (given_value line.cluster));
     namespace = sym (ap (λ vs. given_value line.namespace ++ vs) (no_values (codes "--namespace") dirs) ∙ append-nil (given_value line.namespace));
@@ -172,7 +172,7 @@ plain_read line middle new dirs parts cluster namespace read end =
     let whole = line_of_dirs dirs (read.given ++ parts_left new) (s.known ∙ e.0) (s.none ∙ e.1) in
     record {
       whole = ap is_line is ∙ whole.0;
-      dirs = ap dirs_of is ∙ whole.1;
+      dirs = ap dirs_among is ∙ whole.1;
       added = record {
         cluster = read.added.cluster ∙ (ap (λ v. given_value v ++ values_of (codes "--cluster") read.given) cluster ∙ ap (λ vs. given_value line.cluster ++ vs) (sym (ap (values_of (codes "--cluster")) is ∙ values_behind (codes "--cluster") dirs (texts new.rest.now) read.given end)));
         namespace = read.added.namespace ∙ (ap (λ v. given_value v ++ values_of (codes "--namespace") read.given) namespace ∙ ap (λ vs. given_value line.namespace ++ vs) (sym (ap (values_of (codes "--namespace")) is ∙ values_behind (codes "--namespace") dirs (texts new.rest.now) read.given end)));
@@ -196,7 +196,7 @@ pub no_dirs_next : (line : Line) → begins is_given (parts_left line) ≡ false
 no_dirs_next line option first unmarked = by (texts line.rest.now) refl
   where
     by : (words : List Word) → texts line.rest.now ≡ words → IsUnread line
-    by [] is = inr (inl (ap (λ ws. dirs_of (parts_of format_options ws)) is))
+    by [] is = inr (inl (ap (λ ws. dirs_among (parts_of format_options ws)) is))
     by (word ∷ words) is = inl (stray_first format_options (texts line.rest.now) (λ none. let no : word ∷ words ≡ [] = sym is ∙ none in cc) option first unmarked)
 
 -- ---- what `format` asks for
@@ -220,9 +220,9 @@ unread_format line cluster namespace (inr (inl none)) = rw none (rw (and_right (
 unread_format line cluster namespace (inr (inr (inl twice))) =
     let values = values_of (codes "--cluster") (parts_left line) in
     let none : once values ≡ None = once_of_two values (subst (λ v. 2 ≤ length (given_value v ++ values)) cluster twice) in
-    either_none (is_line (parts_left line) && are_dirs (dirs_of (parts_left line))) _ (rw none refl)
+    either_none (is_line (parts_left line) && are_dirs (dirs_among (parts_left line))) _ (rw none refl)
 unread_format line cluster namespace (inr (inr (inr twice))) =
     let values = values_of (codes "--namespace") (parts_left line) in
     let none : once values ≡ None = once_of_two values (subst (λ v. 2 ≤ length (given_value v ++ values)) namespace twice) in
-    either_none (is_line (parts_left line) && are_dirs (dirs_of (parts_left line))) _
-    (rw none (no_number (option_and_then cluster_in (once (values_of (codes "--cluster") (parts_left line)))) (dirs_of (parts_left line))))
+    either_none (is_line (parts_left line) && are_dirs (dirs_among (parts_left line))) _
+    (rw none (no_number (option_and_then cluster_in (once (values_of (codes "--cluster") (parts_left line)))) (dirs_among (parts_left line))))

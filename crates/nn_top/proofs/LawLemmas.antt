@@ -8,9 +8,9 @@ use Rattle.std.proofs.lemmas.List.{append-nil}
 use Rattle.std.proofs.lemmas.List.Folds.{list_all-append}
 use Rattle.std.proofs.lemmas.Slice.Eq.{bytes_eq-Decides}
 use Rattle.nn_top.specs.Words.{Word, is_plain, can_stand_apart, is_among, are_dirs}
-use Rattle.nn_top.specs.Parts.{Part, Given, Dir, Mark, Stray, joined_in, parts_of, is_dir, is_known, no_dirs, follow, stand_together, is_line, dir_in, dirs_of, value_in, values_of}
+use Rattle.nn_top.specs.Parts.{Part, Given, Dir, Mark, Stray, joined_in, parts_of, is_dir, is_known, no_dirs, follow, stand_together, is_line, dir_in, dirs_among, value_in, values_of}
 use Rattle.nn_top.specs.Wanted.{Wanted, dirs_in}
-use Rattle.nn_top.specs.Commands.{once, cluster_in, format_in, format_options, reading_of, HaveNoReading}
+use Rattle.nn_top.specs.Commands.{once, cluster_in, format_in, format_options, wanted_by, HaveNoReading}
 use Rattle.nn_top.specs.FormatWords.{BeginWith, begins}
 use Rattle.nn_top.specs.Laws.{IsOption, is_unmarked}
 use Rattle.nn_top.proofs.PartsLemmas.{plain_first, mark_first, follow_none, dirless, marked_line}
@@ -89,7 +89,7 @@ apart_parts front rest option value is unmarked apart =
 -- ---- options
 
 pub read_alike : (front rest : List Word) (option value : Word) → IsOption option → is_unmarked front ≡ true → can_stand_apart value ≡ true
-    → reading_of (codes "format" ∷ (front ++ ((option ++ codes "=") ++ value) ∷ rest)) ≡ reading_of (codes "format" ∷ (front ++ option ∷ value ∷ rest))
+    → wanted_by (codes "format" ∷ (front ++ ((option ++ codes "=") ++ value) ∷ rest)) ≡ wanted_by (codes "format" ∷ (front ++ option ∷ value ∷ rest))
 read_alike front rest option value is unmarked apart = ap format_in (joined_parts front rest option value is unmarked ∙ sym (apart_parts front rest option value is unmarked apart))
 
 -- an option that is given a value twice
@@ -106,10 +106,10 @@ twice_none : (option : Word) (parts : List Part) → IsOption option → 2 ≤ l
 twice_none option parts is twice = ⊎_elim
     (λ (cluster : option ≡ codes "--cluster").
     let none : once (values_of (codes "--cluster") parts) ≡ None = once_of_two (values_of (codes "--cluster") parts) (subst (λ o. 2 ≤ length (values_of o parts)) cluster twice) in
-    either_none (is_line parts && are_dirs (dirs_of parts)) _ (rw none refl))
+    either_none (is_line parts && are_dirs (dirs_among parts)) _ (rw none refl))
     (λ (namespace : option ≡ codes "--namespace").
     let none : once (values_of (codes "--namespace") parts) ≡ None = once_of_two (values_of (codes "--namespace") parts) (subst (λ o. 2 ≤ length (values_of o parts)) namespace twice) in
-    either_none (is_line parts && are_dirs (dirs_of parts)) _ (rw none (no_number (option_and_then cluster_in (once (values_of (codes "--cluster") parts))) (dirs_of parts))))
+    either_none (is_line parts && are_dirs (dirs_among parts)) _ (rw none (no_number (option_and_then cluster_in (once (values_of (codes "--cluster") parts))) (dirs_among parts))))
     (which_option option is)
 
 pub twice_unread : (front middle rest : List Word) (option one other : Word) → IsOption option → is_unmarked front ≡ true → is_unmarked middle ≡ true
@@ -166,15 +166,15 @@ option_between dir other option value front rest plain plain' is unmarked =
     let broken = separated_line (parts_of format_options (dir ∷ front)) (Given option value ∷ parts_of format_options (other ∷ rest)) (begins_with_dir format_options dir front plain) refl (begins_with_dir format_options other rest plain') in
     ap format_in parts ∙ rw broken refl
 
-pub behind_mark : (command : Word) (front dirs : List Word) (wanted : Wanted) → is_unmarked front ≡ true → dirs ≢ [] → reading_of (command ∷ (front ++ codes "--" ∷ dirs)) ≡ Some wanted → dirs_in wanted ≡ dirs
+pub behind_mark : (command : Word) (front dirs : List Word) (wanted : Wanted) → is_unmarked front ≡ true → dirs ≢ [] → wanted_by (command ∷ (front ++ codes "--" ∷ dirs)) ≡ Some wanted → dirs_in wanted ≡ dirs
 behind_mark command front [] wanted unmarked some asks = absurd (some refl)
 behind_mark command front (dir ∷ dirs) wanted unmarked some asks =
     let read = read_by command (front ++ codes "--" ∷ dir ∷ dirs) wanted asks in
     let before = parts_of read.names front in
     let parts = marked_parts read.names front (dir ∷ dirs) unmarked in
     let line : is_line (before ++ (Mark ∷ map Dir (dir ∷ dirs))) ≡ true = ap is_line (sym parts) ∙ read.line in
-    read.dirs ∙ (ap dirs_of parts ∙ ⊎_elim
-    (λ (none : no_dirs before ≡ true). flat_map-append dir_in before (Mark ∷ map Dir (dir ∷ dirs)) ∙ (ap (λ ds. ds ++ dirs_of (map Dir (dir ∷ dirs))) (dirless before none).dirs ∙ (marked_line (dir ∷ dirs)).1))
+    read.dirs ∙ (ap dirs_among parts ∙ ⊎_elim
+    (λ (none : no_dirs before ≡ true). flat_map-append dir_in before (Mark ∷ map Dir (dir ∷ dirs)) ∙ (ap (λ ds. ds ++ dirs_among (map Dir (dir ∷ dirs))) (dirless before none).dirs ∙ (marked_line (dir ∷ dirs)).1))
     (λ (has : no_dirs before ≡ false). absurd (true≢false (sym line ∙ separated_line before (Mark ∷ map Dir (dir ∷ dirs)) has refl refl)))
     (cases_Bool (no_dirs before)))
 

@@ -10,48 +10,48 @@ use Rattle.std.proofs.lemmas.List.Kept.{AllPairs-cons}
 use Rattle.std.proofs.lemmas.Slice.Eq.{bytes_eq-Decides}
 use Rattle.nn_base.specs.Limits.{most_dirs}
 use Rattle.nn_top.specs.Words.{Word, is_plain, can_stand_apart, is_among, is_named, are_distinct, are_dirs}
-use Rattle.nn_top.specs.Parts.{Part, Given, Dir, Mark, parts_of, is_line, dirs_of, value_in, values_of}
+use Rattle.nn_top.specs.Parts.{Part, Given, Dir, Mark, parts_of, is_line, dirs_among, value_in, values_of}
 use Rattle.nn_top.specs.Wanted.{Wanted, dirs_in}
-use Rattle.nn_top.specs.Commands.{format_in, format_options, reading_of}
+use Rattle.nn_top.specs.Commands.{format_in, format_options, wanted_by}
 use Rattle.nn_top.specs.FormatWords.{BeginWith, IsEnd, is_given}
-use Rattle.nn_top.specs.Laws.{AreDirs, Choice, is_choice, words_of, spelling, values_in, format_with}
+use Rattle.nn_top.specs.Laws.{AreDirs, GivenOption, can_be_given, words_of, spelling, values_in, format_with}
 use Rattle.nn_top.proofs.PartsLemmas.{mark_first, plain_parts, ended, line_of_dirs, marked_line, named, skipped, skipped_line}
 use Rattle.nn_top.proofs.LawLemmas.{not_not, option_first}
 use Rattle.nn_top.proofs.ReadingLemmas.{read_by}
 
 -- ---- whole lines of `format`
 
-abbrev pub part_for : Choice → Part
+abbrev pub part_for : GivenOption → Part
 part_for choice = Given choice.name choice.value
 
-begin_choice : (choice : Choice) (rest : List Word) → is_choice choice ≡ true → BeginWith (words_of choice ++ rest) choice.name choice.value rest
+begin_choice : (choice : GivenOption) (rest : List Word) → can_be_given choice ≡ true → BeginWith (words_of choice ++ rest) choice.name choice.value rest
 begin_choice choice rest is = by choice.is_joined refl
   where
     by : (joined : Bool) → choice.is_joined ≡ joined → BeginWith (words_of choice ++ rest) choice.name choice.value rest
     by true e = inl (rw e refl)
     by false e = inr (rw e refl, ap (λ b. b || can_stand_apart choice.value) (sym e) ∙ (and_parts (is_among format_options choice.name) (choice.is_joined || can_stand_apart choice.value) is).1)
 
-pub choices_parts : (choices : List Choice) (rest : List Word) → list_all is_choice choices ≡ true → parts_of format_options (spelling choices ++ rest) ≡ map part_for choices ++ parts_of format_options rest
+pub choices_parts : (choices : List GivenOption) (rest : List Word) → list_all can_be_given choices ≡ true → parts_of format_options (spelling choices ++ rest) ≡ map part_for choices ++ parts_of format_options rest
 choices_parts [] rest all = refl
 choices_parts (choice ∷ choices) rest all =
-    let parts = and_parts (is_choice choice) (list_all is_choice choices) all in
+    let parts = and_parts (can_be_given choice) (list_all can_be_given choices) all in
     let is = (and_parts (is_among format_options choice.name) (choice.is_joined || can_stand_apart choice.value) parts.0).0 in
     ap (parts_of format_options) (append_assoc (words_of choice) (spelling choices) rest)
     ∙ (option_first choice.name choice.value (words_of choice ++ (spelling choices ++ rest)) (spelling choices ++ rest) is (begin_choice choice (spelling choices ++ rest) parts.0)
     ∙ ap (λ ps. part_for choice ∷ ps) (choices_parts choices rest parts.1))
 
-pub all_given : (choices : List Choice) → list_all is_given (map part_for choices) ≡ true
+pub all_given : (choices : List GivenOption) → list_all is_given (map part_for choices) ≡ true
 all_given [] = refl
 all_given (choice ∷ choices) = all_given choices
 
-choice_values : (option : Word) (choices : List Choice) → values_of option (map part_for choices) ≡ values_in option choices
+choice_values : (option : Word) (choices : List GivenOption) → values_of option (map part_for choices) ≡ values_in option choices
 choice_values option [] = refl
 choice_values option (choice ∷ choices) = ap (λ vs. (if bytes_eq choice.name option then choice.value ∷ [] else []) ++ vs) (choice_values option choices)
 
-format_line : (parts : List Part) (choices : List Choice) (dirs : List Word) → is_line parts ≡ true → dirs_of parts ≡ dirs → ((option : Word) → values_of option parts ≡ values_in option choices) → format_in parts ≡ format_with choices dirs
+format_line : (parts : List Part) (choices : List GivenOption) (dirs : List Word) → is_line parts ≡ true → dirs_among parts ≡ dirs → ((option : Word) → values_of option parts ≡ values_in option choices) → format_in parts ≡ format_with choices dirs
 format_line parts choices dirs line is values = rw line (rw is (rw (values (codes "--cluster")) (rw (values (codes "--namespace")) refl)))
 
-pub marked_read : (choices : List Choice) (dirs : List Word) → list_all is_choice choices ≡ true → reading_of (codes "format" ∷ (spelling choices ++ codes "--" ∷ dirs)) ≡ format_with choices dirs
+pub marked_read : (choices : List GivenOption) (dirs : List Word) → list_all can_be_given choices ≡ true → wanted_by (codes "format" ∷ (spelling choices ++ codes "--" ∷ dirs)) ≡ format_with choices dirs
 marked_read choices dirs all =
     let front = map part_for choices in
     let s = skipped front (Mark ∷ map Dir dirs) (all_given choices) in
@@ -61,8 +61,8 @@ marked_read choices dirs all =
     (s.dirs ∙ (marked_line dirs).1)
     (λ option. flat_map-append (value_in option) front (Mark ∷ map Dir dirs) ∙ (ap (λ vs. values_of option front ++ vs) (ap (values_of option) (sym (append-nil (map Dir dirs))) ∙ (named dirs []).values option) ∙ (append-nil (values_of option front) ∙ choice_values option choices)))
 
-pub plain_read_line : (front back : List Choice) (dirs end : List Word) → list_all is_choice front ≡ true → list_all is_choice back ≡ true → list_all is_plain dirs ≡ true → IsEnd end
-    → reading_of (codes "format" ∷ (spelling front ++ (dirs ++ (spelling back ++ end)))) ≡ format_with (front ++ back) dirs
+pub plain_read_line : (front back : List GivenOption) (dirs end : List Word) → list_all can_be_given front ≡ true → list_all can_be_given back ≡ true → list_all is_plain dirs ≡ true → IsEnd end
+    → wanted_by (codes "format" ∷ (spelling front ++ (dirs ++ (spelling back ++ end)))) ≡ format_with (front ++ back) dirs
 plain_read_line front back dirs end all all' plain ends =
     let before = map part_for front in
     let behind = map part_for back in
@@ -131,6 +131,6 @@ directories_are dirs are =
     and_from (nat_le 1 (length dirs)) _ (le-leb 1 (length dirs) are.some)
     (and_from (nat_le (length dirs) most_dirs) _ (le-leb (length dirs) most_dirs are.few) (and_from (list_all is_named dirs) (are_distinct dirs) (named_all dirs are.named) (distinct_all dirs are.distinct)))
 
-pub read_dirs : (words : List Word) (wanted : Wanted) → reading_of words ≡ Some wanted → (dirs_in wanted ≡ []) ⊎ AreDirs (dirs_in wanted)
+pub read_dirs : (words : List Word) (wanted : Wanted) → wanted_by words ≡ Some wanted → (dirs_in wanted ≡ []) ⊎ AreDirs (dirs_in wanted)
 read_dirs [] wanted asks = let no : None ≡ Some wanted = asks in cc
 read_dirs (command ∷ words) wanted asks = ⊎_elim (λ are. inr (directories (dirs_in wanted) are)) (λ none. inl none) (read_by command words wanted asks).allowed

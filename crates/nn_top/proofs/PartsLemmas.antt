@@ -6,7 +6,7 @@ use Rattle.std.proofs.lemmas.Bool.{cases_Bool, true≢false, false≢true, and_p
 use Rattle.std.proofs.lemmas.List.{append-nil}
 use Rattle.std.proofs.lemmas.Slice.Eq.{bytes_eq-Decides}
 use Rattle.nn_top.specs.Words.{Word, is_plain, can_stand_apart, is_among}
-use Rattle.nn_top.specs.Parts.{Part, Given, Dir, Mark, Stray, behind, joined_in, parts_of, is_dir, is_known, no_dirs, follow, stand_together, is_line, dirs_of, values_of}
+use Rattle.nn_top.specs.Parts.{Part, Given, Dir, Mark, Stray, behind, joined_in, parts_of, is_dir, is_known, no_dirs, follow, stand_together, is_line, dirs_among, values_of}
 use Rattle.nn_top.specs.FormatWords.{BeginWith, IsEnd, is_given, begins}
 
 -- ---- the first word of a line
@@ -110,7 +110,7 @@ pub record Skipped (front parts : List Part) : Type 0 where
   pub known : list_all is_known (front ++ parts) ≡ list_all is_known parts
   pub together : stand_together (front ++ parts) ≡ stand_together parts
   pub none : no_dirs (front ++ parts) ≡ no_dirs parts
-  pub dirs : dirs_of (front ++ parts) ≡ dirs_of parts
+  pub dirs : dirs_among (front ++ parts) ≡ dirs_among parts
 
 pub skipped : (front parts : List Part) → list_all is_given front ≡ true → Skipped front parts
 skipped [] parts all = record { known = refl; together = refl; none = refl; dirs = refl }
@@ -126,7 +126,7 @@ skipped_line front parts all = let s = skipped front parts all in ap (λ b. b &&
 pub record Dirless (parts : List Part) : Type 0 where
   pub follow : follow parts ≡ true
   pub together : stand_together parts ≡ true
-  pub dirs : dirs_of parts ≡ []
+  pub dirs : dirs_among parts ≡ []
 
 pub dirless : (parts : List Part) → no_dirs parts ≡ true → Dirless parts
 dirless [] none = record { follow = refl; together = refl; dirs = refl }
@@ -139,7 +139,7 @@ dirless (Stray ∷ parts) none = let below = dirless parts none in record { foll
 pub record Named (front : List Word) (parts : List Part) : Type 0 where
   pub known : list_all is_known (map Dir front ++ parts) ≡ list_all is_known parts
   pub follow : follow (map Dir front ++ parts) ≡ follow parts
-  pub dirs : dirs_of (map Dir front ++ parts) ≡ front ++ dirs_of parts
+  pub dirs : dirs_among (map Dir front ++ parts) ≡ front ++ dirs_among parts
   pub values : (option : Word) → values_of option (map Dir front ++ parts) ≡ values_of option parts
 
 pub named : (front : List Word) (parts : List Part) → Named front parts
@@ -147,7 +147,7 @@ named [] parts = record { known = refl; follow = refl; dirs = refl; values = λ 
 named (dir ∷ front) parts = let below = named front parts in record { known = below.known; follow = below.follow; dirs = ap (λ ds. dir ∷ ds) below.dirs; values = below.values }
 
 -- directories, and no further ones behind them
-pub line_of_dirs : (front : List Word) (parts : List Part) → list_all is_known parts ≡ true → no_dirs parts ≡ true → (is_line (map Dir front ++ parts) ≡ true) × (dirs_of (map Dir front ++ parts) ≡ front)
+pub line_of_dirs : (front : List Word) (parts : List Part) → list_all is_known parts ≡ true → no_dirs parts ≡ true → (is_line (map Dir front ++ parts) ≡ true) × (dirs_among (map Dir front ++ parts) ≡ front)
 line_of_dirs front parts known none =
     let n = named front parts in
     let d = dirless parts none in
@@ -158,9 +158,9 @@ line_of_dirs front parts known none =
     together (dir ∷ front) = (named front parts).follow ∙ (dirless parts none).follow
 
 -- the same behind `--`
-pub marked_line : (dirs : List Word) → (is_line (Mark ∷ map Dir dirs) ≡ true) × (dirs_of (Mark ∷ map Dir dirs) ≡ dirs)
+pub marked_line : (dirs : List Word) → (is_line (Mark ∷ map Dir dirs) ≡ true) × (dirs_among (Mark ∷ map Dir dirs) ≡ dirs)
 marked_line dirs = let line = line_of_dirs dirs [] refl refl in
-    (subst (λ ps. is_line ps ≡ true) (append-nil (map Dir dirs)) line.0, subst (λ ps. dirs_of ps ≡ dirs) (append-nil (map Dir dirs)) line.1)
+    (subst (λ ps. is_line ps ≡ true) (append-nil (map Dir dirs)) line.0, subst (λ ps. dirs_among ps ≡ dirs) (append-nil (map Dir dirs)) line.1)
 
 -- directories that don't stand together
 pub follow_none : (parts : List Part) → begins is_dir parts ≡ false → no_dirs parts ≡ false → follow parts ≡ false

@@ -7,17 +7,17 @@ use Rattle.nn_base.specs.Decimal.{number_in}
 use Rattle.nn_base.specs.Words.{is_word}
 use Rattle.nn_base.specs.Limits.{most_dirs}
 use Rattle.nn_top.specs.Words.{Word, is_named, are_distinct, are_dirs}
-use Rattle.nn_top.specs.Parts.{parts_of, is_line, no_dirs, dirs_of, values_of}
+use Rattle.nn_top.specs.Parts.{parts_of, is_line, no_dirs, dirs_among, values_of}
 use Rattle.nn_top.specs.Wanted.{Wanted, States, Format, Dry, dirs_in}
-use Rattle.nn_top.specs.Commands.{states_in, dry_in, once, cluster_in, namespace_of, namespace_in, format_for, format_in, format_options, reading_of, HaveNoReading}
+use Rattle.nn_top.specs.Commands.{states_in, dry_in, once, cluster_in, namespace_of, namespace_in, format_for, format_in, format_options, wanted_by, HaveNoReading}
 use Rattle.nn_top.proofs.PartsLemmas.{dirless}
 
 -- words that ask for something have a reading
-pub read_or_not : (words : List Word) (wanted : Wanted) → reading_of words ≡ Some wanted → HaveNoReading words → ⊥
+pub read_or_not : (words : List Word) (wanted : Wanted) → wanted_by words ≡ Some wanted → HaveNoReading words → ⊥
 read_or_not words wanted asks none = let no : Some wanted ≡ None = sym asks ∙ none in cc
 
 -- and ask for nothing else
-pub one_reading : (words : List Word) (one other : Wanted) → reading_of words ≡ Some one → reading_of words ≡ Some other → one ≡ other
+pub one_reading : (words : List Word) (one other : Wanted) → wanted_by words ≡ Some one → wanted_by words ≡ Some other → one ≡ other
 one_reading words one other asks asks' = let same : Some one ≡ Some other = sym asks ∙ asks' in cc
 
 -- ---- the parts of words with a reading
@@ -27,7 +27,7 @@ pub record Read (words : List Word) (wanted : Wanted) : Type 0 where
   pub names : List Word
   pub taken : (names ≡ []) ⊎ (names ≡ format_options)
   pub line : is_line (parts_of names words) ≡ true
-  pub dirs : dirs_in wanted ≡ dirs_of (parts_of names words)
+  pub dirs : dirs_in wanted ≡ dirs_among (parts_of names words)
   pub allowed : (are_dirs (dirs_in wanted) ≡ true) ⊎ (dirs_in wanted ≡ [])
 
 pub if_some : {A : Type 0} (test : Bool) (found : Option A) (x : A) → (if test then found else None) ≡ Some x → (test ≡ true) × (found ≡ Some x)
@@ -39,14 +39,14 @@ format_dirs None namespace dirs wanted e = let no : None ≡ Some wanted = e in 
 format_dirs (Some cluster) None dirs wanted e = let no : None ≡ Some wanted = e in cc
 format_dirs (Some cluster) (Some namespace) dirs wanted e = let same : Format cluster namespace dirs ≡ wanted = cc in ap dirs_in (sym same)
 
-read_with : (names words : List Word) (wanted : Wanted) → (names ≡ []) ⊎ (names ≡ format_options) → (is_line (parts_of names words) && are_dirs (dirs_of (parts_of names words))) ≡ true → dirs_in wanted ≡ dirs_of (parts_of names words) → Read words wanted
+read_with : (names words : List Word) (wanted : Wanted) → (names ≡ []) ⊎ (names ≡ format_options) → (is_line (parts_of names words) && are_dirs (dirs_among (parts_of names words))) ≡ true → dirs_in wanted ≡ dirs_among (parts_of names words) → Read words wanted
 read_with names words wanted taken test dirs =
-    let both = and_parts (is_line (parts_of names words)) (are_dirs (dirs_of (parts_of names words))) test in
+    let both = and_parts (is_line (parts_of names words)) (are_dirs (dirs_among (parts_of names words))) test in
     record { names = names; taken = taken; line = both.0; dirs = dirs; allowed = inl (ap are_dirs dirs ∙ both.1) }
 
 read_states : (words : List Word) (wanted : Wanted) → states_in (parts_of [] words) ≡ Some wanted → Read words wanted
 read_states words wanted asks =
-    let dirs = dirs_of (parts_of [] words) in
+    let dirs = dirs_among (parts_of [] words) in
     let test = if_some (is_line (parts_of [] words) && are_dirs dirs) (Some (States dirs)) wanted asks in
     let same : States dirs ≡ wanted = let e = test.1 in cc in
     read_with [] words wanted (inl refl) test.0 (ap dirs_in (sym same))
@@ -56,8 +56,8 @@ read_format words wanted asks =
     let parts = parts_of format_options words in
     let cluster = option_and_then cluster_in (once (values_of (codes "--cluster") parts)) in
     let namespace = option_and_then namespace_in (once (values_of (codes "--namespace") parts)) in
-    let test = if_some (is_line parts && are_dirs (dirs_of parts)) (format_for cluster namespace (dirs_of parts)) wanted asks in
-    read_with format_options words wanted (inr refl) test.0 (format_dirs cluster namespace (dirs_of parts) wanted test.1)
+    let test = if_some (is_line parts && are_dirs (dirs_among parts)) (format_for cluster namespace (dirs_among parts)) wanted asks in
+    read_with format_options words wanted (inr refl) test.0 (format_dirs cluster namespace (dirs_among parts) wanted test.1)
 
 read_dry : (words : List Word) (wanted : Wanted) → dry_in (parts_of [] words) ≡ Some wanted → Read words wanted
 read_dry words wanted asks =
@@ -73,16 +73,16 @@ by_command false true c x y z wanted e = inr (inl e)
 by_command false false true x y z wanted e = inr (inr e)
 by_command false false false x y z wanted e = let no : None ≡ Some wanted = e in cc
 
-pub read_by : (command : Word) (words : List Word) (wanted : Wanted) → reading_of (command ∷ words) ≡ Some wanted → Read words wanted
+pub read_by : (command : Word) (words : List Word) (wanted : Wanted) → wanted_by (command ∷ words) ≡ Some wanted → Read words wanted
 read_by command words wanted asks =
     ⊎_elim (λ states. read_states words wanted states) (λ others. ⊎_elim (λ format. read_format words wanted format) (λ dry. read_dry words wanted dry) others)
     (by_command (bytes_eq command (codes "state")) (bytes_eq command (codes "format")) (bytes_eq command (codes "dry")) (states_in (parts_of [] words)) (format_in (parts_of format_options words)) (dry_in (parts_of [] words)) wanted asks)
 
 -- what is no line, whatever the options, has no reading
 pub unread_by : (command : Word) (words : List Word) → ((names : List Word) → (names ≡ []) ⊎ (names ≡ format_options) → is_line (parts_of names words) ≡ false) → HaveNoReading (command ∷ words)
-unread_by command words broken = by (reading_of (command ∷ words)) refl
+unread_by command words broken = by (wanted_by (command ∷ words)) refl
   where
-    by : (found : Option Wanted) → reading_of (command ∷ words) ≡ found → reading_of (command ∷ words) ≡ None
+    by : (found : Option Wanted) → wanted_by (command ∷ words) ≡ found → wanted_by (command ∷ words) ≡ None
     by None is = is
     by (Some wanted) is = let read = read_by command words wanted is in absurd (true≢false (sym read.line ∙ broken read.names read.taken))
 
@@ -94,7 +94,7 @@ few_of dirs are =
     leb-true (length dirs) most_dirs (and_parts (nat_le (length dirs) most_dirs) (list_all is_named dirs && are_distinct dirs) some.1).0
 
 -- what they ask for has at most eight directories
-pub few_dirs : (words : List Word) (wanted : Wanted) → reading_of words ≡ Some wanted → length (dirs_in wanted) ≤ 8
+pub few_dirs : (words : List Word) (wanted : Wanted) → wanted_by words ≡ Some wanted → length (dirs_in wanted) ≤ 8
 few_dirs [] wanted asks = let no : None ≡ Some wanted = asks in cc
 few_dirs (command ∷ words) wanted asks =
     ⊎_elim (λ are. few_of (dirs_in wanted) are) (λ none. omega (arith, ap length none)) (read_by command words wanted asks).allowed
@@ -126,7 +126,7 @@ namespace_range None n e = let no : None ≡ Some n = e in cc
 namespace_range (Some word) n e = number_range (number_in word) n e
 
 -- an id that is a word, and a number within its range
-pub format_range : (words : List Word) (cluster : Word) (namespace : ℕ) (dirs : List Word) → reading_of words ≡ Some (Format cluster namespace dirs) → IsTrue (is_word cluster) × (1 ≤ namespace) × (namespace ≤ 2147483647)
+pub format_range : (words : List Word) (cluster : Word) (namespace : ℕ) (dirs : List Word) → wanted_by words ≡ Some (Format cluster namespace dirs) → IsTrue (is_word cluster) × (1 ≤ namespace) × (namespace ≤ 2147483647)
 format_range [] cluster namespace dirs asks = let no : None ≡ Some (Format cluster namespace dirs) = asks in cc
 format_range (command ∷ words) cluster namespace dirs asks =
     let wanted = Format cluster namespace dirs in
@@ -135,11 +135,11 @@ format_range (command ∷ words) cluster namespace dirs asks =
     let given = once (values_of (codes "--cluster") parts) in
     let number = once (values_of (codes "--namespace") parts) in
     ⊎_elim
-    (λ (states : states_in plain ≡ Some wanted). let e = (if_some (is_line plain && are_dirs (dirs_of plain)) (Some (States (dirs_of plain))) wanted states).1 in let no : States (dirs_of plain) ≡ Format cluster namespace dirs = cc in cc)
+    (λ (states : states_in plain ≡ Some wanted). let e = (if_some (is_line plain && are_dirs (dirs_among plain)) (Some (States (dirs_among plain))) wanted states).1 in let no : States (dirs_among plain) ≡ Format cluster namespace dirs = cc in cc)
     (λ (others : (format_in parts ≡ Some wanted) ⊎ (dry_in plain ≡ Some wanted)). ⊎_elim
     (λ (format : format_in parts ≡ Some wanted).
-    let e = (if_some (is_line parts && are_dirs (dirs_of parts)) (format_for (option_and_then cluster_in given) (option_and_then namespace_in number) (dirs_of parts)) wanted format).1 in
-    let both = format_for_some (option_and_then cluster_in given) (option_and_then namespace_in number) (dirs_of parts) cluster namespace dirs e in
+    let e = (if_some (is_line parts && are_dirs (dirs_among parts)) (format_for (option_and_then cluster_in given) (option_and_then namespace_in number) (dirs_among parts)) wanted format).1 in
+    let both = format_for_some (option_and_then cluster_in given) (option_and_then namespace_in number) (dirs_among parts) cluster namespace dirs e in
     let range = namespace_range number namespace both.1 in
     (cluster_range given cluster both.0, range.0, range.1))
     (λ (dry : dry_in plain ≡ Some wanted). let e = (if_some (is_line plain && no_dirs plain) (Some Dry) wanted dry).1 in let no : Dry ≡ Format cluster namespace dirs = cc in cc)

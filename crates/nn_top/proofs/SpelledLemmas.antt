@@ -6,11 +6,11 @@ use Rattle.std.proofs.lemmas.Bool.{cases_Bool, true≢false, and_parts, and_from
 use Rattle.std.proofs.lemmas.List.Folds.{list_all-append}
 use Rattle.std.proofs.lemmas.Slice.Eq.{bytes_eq-Decides}
 use Rattle.nn_top.specs.Words.{Word, is_plain, can_stand_apart, is_among, are_dirs}
-use Rattle.nn_top.specs.Parts.{Part, Dir, parts_of, is_dir, no_dirs, is_line, dirs_of}
+use Rattle.nn_top.specs.Parts.{Part, Dir, parts_of, is_dir, no_dirs, is_line, dirs_among}
 use Rattle.nn_top.specs.Wanted.{Wanted, States, Dry}
-use Rattle.nn_top.specs.Commands.{states_in, format_options, reading_of}
+use Rattle.nn_top.specs.Commands.{states_in, format_options, wanted_by}
 use Rattle.nn_top.specs.FormatWords.{BeginWith, IsEnd, is_given, begins}
-use Rattle.nn_top.specs.Laws.{Choice, is_choice, words_of, spelling, IsSpelled, AreSpelled, format_with, states_with}
+use Rattle.nn_top.specs.Laws.{GivenOption, can_be_given, words_of, spelling, IsSpelled, AreSpelled, format_with, states_with}
 use Rattle.nn_top.proofs.PartsLemmas.{First, a_dir, a_mark, an_option, a_stray, first_of, unplain_first, plain_parts, mark_first, marked_line, ended, line_of_dirs, dirless, plain_unread, skipped_line, stray_first, unended_line}
 use Rattle.nn_top.proofs.ReadingLemmas.{if_some}
 use Rattle.nn_top.proofs.LineLemmas.{part_for, all_given, choices_parts, marked_read, plain_read_line}
@@ -19,8 +19,8 @@ use Rattle.nn_top.proofs.LineLemmas.{part_for, all_given, choices_parts, marked_
 
 -- the option that stands first, as it is spelled
 record Spells (words : List Word) (rest : List Word) : Type 0 where
-  choice : Choice
-  is : is_choice choice ≡ true
+  choice : GivenOption
+  is : can_be_given choice ≡ true
   spelled : words ≡ words_of choice ++ rest
   shorter : length rest < length words
 
@@ -40,9 +40,9 @@ spells words name value rest among (inr (is, apart)) = record {
 
 -- options, and then none
 record Front (words : List Word) : Type 0 where
-  choices : List Choice
+  choices : List GivenOption
   rest : List Word
-  all : list_all is_choice choices ≡ true
+  all : list_all can_be_given choices ≡ true
   spelled : words ≡ spelling choices ++ rest
   ended : begins is_given (parts_of format_options rest) ≡ false
 
@@ -61,7 +61,7 @@ front_of (suc most) (word ∷ words) few = by (λ rest less. front_of most rest 
         record {
           choices = first.choice ∷ later.choices;
           rest = later.rest;
-          all = and_from (is_choice first.choice) (list_all is_choice later.choices) first.is later.all;
+          all = and_from (can_be_given first.choice) (list_all can_be_given later.choices) first.is later.all;
           spelled = first.spelled ∙ (ap (λ ws. words_of first.choice ++ ws) later.spelled ∙ sym (append_assoc (words_of first.choice) (spelling later.choices) later.rest));
           ended = later.ended;
         }
@@ -104,13 +104,13 @@ marked_or_not (word ∷ words) = ⊎_elim
 -- ---- `format`
 
 -- a line that isn't marked ends behind the options that follow its directories
-no_more : (rest dirs behind end : List Word) (choices : List Choice) → is_line (parts_of format_options rest) ≡ true → begins is_given (parts_of format_options rest) ≡ false → ((later : List Word) → rest ≢ codes "--" ∷ later)
-    → rest ≡ dirs ++ behind → list_all is_plain dirs ≡ true → begins is_dir (parts_of format_options behind) ≡ false → behind ≡ spelling choices ++ end → list_all is_choice choices ≡ true → begins is_given (parts_of format_options end) ≡ false → (IsEnd end → ⊥) → ⊥
+no_more : (rest dirs behind end : List Word) (choices : List GivenOption) → is_line (parts_of format_options rest) ≡ true → begins is_given (parts_of format_options rest) ≡ false → ((later : List Word) → rest ≢ codes "--" ∷ later)
+    → rest ≡ dirs ++ behind → list_all is_plain dirs ≡ true → begins is_dir (parts_of format_options behind) ≡ false → behind ≡ spelling choices ++ end → list_all can_be_given choices ≡ true → begins is_given (parts_of format_options end) ≡ false → (IsEnd end → ⊥) → ⊥
 no_more rest [] behind end choices line option unmarked is plain dir spelled all none more =
     let broken = stray_first format_options rest (λ nothing. more (inl (last choices end (sym spelled ∙ (sym is ∙ nothing))))) option (ap (λ ws. begins is_dir (parts_of format_options ws)) is ∙ dir) unmarked in
     true≢false (sym line ∙ broken)
   where
-    last : (choices : List Choice) (end : List Word) → spelling choices ++ end ≡ [] → end ≡ []
+    last : (choices : List GivenOption) (end : List Word) → spelling choices ++ end ≡ [] → end ≡ []
     last [] end e = e
     last (choice ∷ choices) end e = absurd (by choice.is_joined refl)
       where
@@ -127,9 +127,9 @@ no_more rest (first ∷ dirs) behind end choices line option unmarked is plain d
 
 -- a line is spelled by these
 pub record Found (words : List Word) : Type 0 where
-  pub choices : List Choice
+  pub choices : List GivenOption
   pub dirs : List Word
-  pub all : list_all is_choice choices ≡ true
+  pub all : list_all can_be_given choices ≡ true
   pub spelled : IsSpelled words choices dirs
 
 line_found : (words : List Word) → is_line (parts_of format_options words) ≡ true → Found words
@@ -139,7 +139,7 @@ line_found words line = ⊎_elim
     (λ (ends : IsEnd back.rest). record {
       choices = front.choices ++ back.choices;
       dirs = plain.dirs;
-      all = list_all-append is_choice front.choices back.choices ∙ and_from (list_all is_choice front.choices) (list_all is_choice back.choices) front.all back.all;
+      all = list_all-append can_be_given front.choices back.choices ∙ and_from (list_all can_be_given front.choices) (list_all can_be_given back.choices) front.all back.all;
       spelled = inl (record {
         front = front.choices;
         back = back.choices;
@@ -166,37 +166,37 @@ line_found words line = ⊎_elim
     rest_line : is_line (parts_of format_options front.rest) ≡ true
     rest_line = sym (skipped_line (map part_for front.choices) (parts_of format_options front.rest) (all_given front.choices)) ∙ (ap is_line (sym (choices_parts front.choices front.rest front.all)) ∙ (ap (λ ws. is_line (parts_of format_options ws)) (sym front.spelled) ∙ line))
 
-pub format_spelled : (words : List Word) (wanted : Wanted) → reading_of (codes "format" ∷ words) ≡ Some wanted
-    → (choices : List Choice) × (dirs : List Word) × (list_all is_choice choices ≡ true) × IsSpelled words choices dirs × (format_with choices dirs ≡ Some wanted)
+pub format_spelled : (words : List Word) (wanted : Wanted) → wanted_by (codes "format" ∷ words) ≡ Some wanted
+    → (choices : List GivenOption) × (dirs : List Word) × (list_all can_be_given choices ≡ true) × IsSpelled words choices dirs × (format_with choices dirs ≡ Some wanted)
 format_spelled words wanted asks =
     let parts = parts_of format_options words in
-    let test = if_some (is_line parts && are_dirs (dirs_of parts)) _ wanted asks in
-    let found = line_found words (and_parts (is_line parts) (are_dirs (dirs_of parts)) test.0).0 in
+    let test = if_some (is_line parts && are_dirs (dirs_among parts)) _ wanted asks in
+    let found = line_found words (and_parts (is_line parts) (are_dirs (dirs_among parts)) test.0).0 in
     (found.choices, found.dirs, found.all, found.spelled, value found found.spelled)
   where
     value : (found : Found words) → IsSpelled words found.choices found.dirs → format_with found.choices found.dirs ≡ Some wanted
-    value found (inr marked) = sym (marked_read found.choices found.dirs found.all) ∙ (ap (λ ws. reading_of (codes "format" ∷ ws)) (sym marked) ∙ asks)
+    value found (inr marked) = sym (marked_read found.choices found.dirs found.all) ∙ (ap (λ ws. wanted_by (codes "format" ∷ ws)) (sym marked) ∙ asks)
     value found (inl around) =
-        let all = ap (list_all is_choice) (sym around.both) ∙ found.all in
-        let both = and_parts (list_all is_choice around.front) (list_all is_choice around.back) (sym (list_all-append is_choice around.front around.back) ∙ all) in
+        let all = ap (list_all can_be_given) (sym around.both) ∙ found.all in
+        let both = and_parts (list_all can_be_given around.front) (list_all can_be_given around.back) (sym (list_all-append can_be_given around.front around.back) ∙ all) in
         ap (λ cs. format_with cs found.dirs) around.both
-        ∙ (sym (plain_read_line around.front around.back found.dirs around.end both.0 both.1 around.plain around.ends) ∙ (ap (λ ws. reading_of (codes "format" ∷ ws)) (sym around.spelled) ∙ asks))
+        ∙ (sym (plain_read_line around.front around.back found.dirs around.end both.0 both.1 around.plain around.ends) ∙ (ap (λ ws. wanted_by (codes "format" ∷ ws)) (sym around.spelled) ∙ asks))
 
 -- ---- `state` and `dry`
 
-states_line : (parts : List Part) (dirs : List Word) → is_line parts ≡ true → dirs_of parts ≡ dirs → states_in parts ≡ states_with dirs
+states_line : (parts : List Part) (dirs : List Word) → is_line parts ≡ true → dirs_among parts ≡ dirs → states_in parts ≡ states_with dirs
 states_line parts dirs line is = rw line (rw is refl)
 
 -- the parts of directories without options
-plain_line : (words dirs : List Word) → AreSpelled words dirs → (is_line (parts_of [] words) ≡ true) × (dirs_of (parts_of [] words) ≡ dirs)
+plain_line : (words dirs : List Word) → AreSpelled words dirs → (is_line (parts_of [] words) ≡ true) × (dirs_among (parts_of [] words) ≡ dirs)
 plain_line words dirs (inr marked) =
     let is = ap (parts_of []) marked ∙ mark_first [] dirs in
-    (ap is_line is ∙ (marked_line dirs).0, ap dirs_of is ∙ (marked_line dirs).1)
+    (ap is_line is ∙ (marked_line dirs).0, ap dirs_among is ∙ (marked_line dirs).1)
 plain_line words dirs (inl (plain, end, ends, spelled)) =
     let is = ap (parts_of []) spelled ∙ plain_parts [] dirs end plain in
     let last = ended [] end ends in
     let line = line_of_dirs dirs (parts_of [] end) last.0 last.1 in
-    (ap is_line is ∙ line.0, ap dirs_of is ∙ line.1)
+    (ap is_line is ∙ line.0, ap dirs_among is ∙ line.1)
 
 plain_found : (words : List Word) → is_line (parts_of [] words) ≡ true → (dirs : List Word) × AreSpelled words dirs
 plain_found words line = ⊎_elim
@@ -212,21 +212,21 @@ plain_found words line = ⊎_elim
     front : Plain [] words
     front = plain_of [] words
 
-pub states_read : (words dirs : List Word) → AreSpelled words dirs → reading_of (codes "state" ∷ words) ≡ states_with dirs
+pub states_read : (words dirs : List Word) → AreSpelled words dirs → wanted_by (codes "state" ∷ words) ≡ states_with dirs
 states_read words dirs spelled = let line = plain_line words dirs spelled in states_line (parts_of [] words) dirs line.0 line.1
 
-pub states_spelled : (words : List Word) (wanted : Wanted) → reading_of (codes "state" ∷ words) ≡ Some wanted → (dirs : List Word) × AreSpelled words dirs × (states_with dirs ≡ Some wanted)
+pub states_spelled : (words : List Word) (wanted : Wanted) → wanted_by (codes "state" ∷ words) ≡ Some wanted → (dirs : List Word) × AreSpelled words dirs × (states_with dirs ≡ Some wanted)
 states_spelled words wanted asks =
     let parts = parts_of [] words in
-    let test = if_some (is_line parts && are_dirs (dirs_of parts)) (Some (States (dirs_of parts))) wanted asks in
-    let found = plain_found words (and_parts (is_line parts) (are_dirs (dirs_of parts)) test.0).0 in
+    let test = if_some (is_line parts && are_dirs (dirs_among parts)) (Some (States (dirs_among parts))) wanted asks in
+    let found = plain_found words (and_parts (is_line parts) (are_dirs (dirs_among parts)) test.0).0 in
     (found.0, found.1, sym (states_read words found.0 found.1) ∙ asks)
 
-pub dry_read : (words : List Word) → IsEnd words → reading_of (codes "dry" ∷ words) ≡ Some Dry
+pub dry_read : (words : List Word) → IsEnd words → wanted_by (codes "dry" ∷ words) ≡ Some Dry
 dry_read words (inl is) = rw is refl
 dry_read words (inr is) = rw is refl
 
-pub dry_spelled : (words : List Word) (wanted : Wanted) → reading_of (codes "dry" ∷ words) ≡ Some wanted → (wanted ≡ Dry) × IsEnd words
+pub dry_spelled : (words : List Word) (wanted : Wanted) → wanted_by (codes "dry" ∷ words) ≡ Some wanted → (wanted ≡ Dry) × IsEnd words
 dry_spelled words wanted asks =
     let parts = parts_of [] words in
     let test = if_some (is_line parts && no_dirs parts) (Some Dry) wanted asks in

@@ -7,11 +7,11 @@ use Rattle.nn_top.specs.declared.words.Command.{Command}
 use Rattle.nn_top.specs.declared.words.Command.TheVariants as command
 use Rattle.nn_top.specs.Wanted.{Wanted, States, Format, Dry}
 use Rattle.nn_top.specs.Words.{Word, texts, are_dirs}
-use Rattle.nn_top.specs.Parts.{Part, parts_of, is_line, no_dirs, dirs_of, values_of}
+use Rattle.nn_top.specs.Parts.{Part, parts_of, is_line, no_dirs, dirs_among, values_of}
 
 -- `state` takes directories alone
 abbrev pub states_in : List Part → Option Wanted
-states_in parts = if is_line parts && are_dirs (dirs_of parts) then Some (States (dirs_of parts)) else None
+states_in parts = if is_line parts && are_dirs (dirs_among parts) then Some (States (dirs_among parts)) else None
 
 -- `dry` takes neither directories nor options
 abbrev pub dry_in : List Part → Option Wanted
@@ -41,24 +41,24 @@ format_for (Some cluster) (Some namespace) dirs = Some (Format cluster namespace
 -- `format` takes directories, a cluster's id and a namespace's number
 abbrev pub format_in : List Part → Option Wanted
 format_in parts =
-    if is_line parts && are_dirs (dirs_of parts)
-    then format_for (option_and_then cluster_in (once (values_of (codes "--cluster") parts))) (option_and_then namespace_in (once (values_of (codes "--namespace") parts))) (dirs_of parts)
+    if is_line parts && are_dirs (dirs_among parts)
+    then format_for (option_and_then cluster_in (once (values_of (codes "--cluster") parts))) (option_and_then namespace_in (once (values_of (codes "--namespace") parts))) (dirs_among parts)
     else None
 
 abbrev pub format_options : List Word
 format_options = codes "--cluster" ∷ codes "--namespace" ∷ []
 
 -- what the words ask for, if they have a reading
-abbrev pub reading_of : List Word → Option Wanted
-reading_of [] = None
-reading_of (command ∷ words) =
+abbrev pub wanted_by : List Word → Option Wanted
+wanted_by [] = None
+wanted_by (command ∷ words) =
     if bytes_eq command (codes "state") then states_in (parts_of [] words)
     else if bytes_eq command (codes "format") then format_in (parts_of format_options words)
     else if bytes_eq command (codes "dry") then dry_in (parts_of [] words)
     else None
 
 abbrev pub HaveNoReading : List Word → Type 0
-HaveNoReading words = reading_of words ≡ None
+HaveNoReading words = wanted_by words ≡ None
 
 -- what a command that was read does
 abbrev pub wanted_in : Command → Wanted

@@ -4,7 +4,7 @@ use Rattle.std.specs.Borrow.{Bor}
 use Rattle.std.specs.List.{list_all}
 use Rattle.nn_top.specs.declared.words.format.Line.{Line}
 use Rattle.nn_top.specs.Words.{Word, texts, can_stand_apart}
-use Rattle.nn_top.specs.Parts.{Part, Given, Dir, Mark, Stray, parts_of, is_line, dirs_of, values_of}
+use Rattle.nn_top.specs.Parts.{Part, Given, Dir, Mark, Stray, parts_of, is_line, dirs_among, values_of}
 use Rattle.nn_top.specs.Commands.{format_options}
 
 -- the words begin with this option and its value
@@ -56,9 +56,9 @@ pub record ReadOptions (old new : Line) : Type 0 where
 -- what was left was read to its end
 pub record ReadLine (old new : Line) (found : List Word) : Type 0 where
   pub whole : is_line (parts_left old) ≡ true
-  pub dirs : dirs_of (parts_left old) ≡ found
+  pub dirs : dirs_among (parts_left old) ≡ found
   pub added : Adds (parts_left old) old new
 
 -- what was left can't be read
 abbrev pub IsUnread : Line → Type 0
-IsUnread line = (is_line (parts_left line) ≡ false) ⊎ ((dirs_of (parts_left line) ≡ []) ⊎ GivenTwice line (parts_left line))
+IsUnread line = (is_line (parts_left line) ≡ false) ⊎ ((dirs_among (parts_left line) ≡ []) ⊎ GivenTwice line (parts_left line))

@@ -24,28 +24,28 @@ abbrev pub is_unmarked : List Word → Bool
 is_unmarked words = list_all (λ word. not (bytes_eq word (codes "--"))) words
 
 -- an option with its value, joined to one word or apart as two
-pub record Choice : Type 0 where
+pub record GivenOption : Type 0 where
   pub name : Word
   pub value : Word
   pub is_joined : Bool
 
-abbrev pub is_choice : Choice → Bool
-is_choice choice = is_among format_options choice.name && (choice.is_joined || can_stand_apart choice.value)
+abbrev pub can_be_given : GivenOption → Bool
+can_be_given choice = is_among format_options choice.name && (choice.is_joined || can_stand_apart choice.value)
 
-abbrev pub words_of : Choice → List Word
+abbrev pub words_of : GivenOption → List Word
 words_of choice = if choice.is_joined then (choice.name ++ codes "=" ++ choice.value) ∷ [] else choice.name ∷ choice.value ∷ []
 
-abbrev pub spelling : List Choice → List Word
+abbrev pub spelling : List GivenOption → List Word
 spelling choices = flat_map words_of choices
 
 -- the values that an option is given, in order
-abbrev pub values_in : Word → List Choice → List Word
+abbrev pub values_in : Word → List GivenOption → List Word
 values_in option choices = flat_map (λ choice. if bytes_eq choice.name option then choice.value ∷ [] else []) choices
 
 -- options, plain directories, options, and perhaps a last `--`
-pub record IsSpelledAround (words : List Word) (choices : List Choice) (dirs : List Word) : Type 0 where
-  pub front : List Choice
-  pub back : List Choice
+pub record IsSpelledAround (words : List Word) (choices : List GivenOption) (dirs : List Word) : Type 0 where
+  pub front : List GivenOption
+  pub back : List GivenOption
   pub end : List Word
   pub both : choices ≡ front ++ back
   pub plain : list_all is_plain dirs ≡ true
@@ -53,11 +53,11 @@ pub record IsSpelledAround (words : List Word) (choices : List Choice) (dirs : L
   pub spelled : words ≡ spelling front ++ (dirs ++ (spelling back ++ end))
 
 -- or options, `--`, and directories that may begin with `-`
-abbrev pub IsSpelled : List Word → List Choice → List Word → Type 0
+abbrev pub IsSpelled : List Word → List GivenOption → List Word → Type 0
 IsSpelled words choices dirs = IsSpelledAround words choices dirs ⊎ (words ≡ spelling choices ++ codes "--" ∷ dirs)
 
 -- what `format` asks for with these options and directories
-abbrev pub format_with : List Choice → List Word → Option Wanted
+abbrev pub format_with : List GivenOption → List Word → Option Wanted
 format_with choices dirs =
     if are_dirs dirs
     then format_for (option_and_then cluster_in (once (values_in (codes "--cluster") choices))) (option_and_then namespace_in (once (values_in (codes "--namespace") choices))) dirs

@@ -87,8 +87,8 @@ dir_in (Given name value) = []
 dir_in Mark = []
 dir_in Stray = []
 
-abbrev pub dirs_of : List Part → List Word
-dirs_of parts = flat_map dir_in parts
+abbrev pub dirs_among : List Part → List Word
+dirs_among parts = flat_map dir_in parts
 
 abbrev pub value_in : Word → Part → List Word
 value_in option (Given name value) = if bytes_eq name option then value ∷ [] else []

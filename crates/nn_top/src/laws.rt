@@ -5,14 +5,14 @@ ghost use Rattle.std.specs.Str.{bytes_eq};
 ghost use Rattle.nn_top.specs.Words.{Word as W, is_plain, can_stand_apart, is_among, are_dirs};
 ghost use Rattle.nn_top.specs.Parts.{Stray, joined_in};
 ghost use Rattle.nn_top.specs.Wanted.{Wanted, Dry, dirs_in};
-ghost use Rattle.nn_top.specs.Commands.{format_options, reading_of, HaveNoReading};
+ghost use Rattle.nn_top.specs.Commands.{format_options, wanted_by, HaveNoReading};
 ghost use Rattle.nn_top.specs.FormatWords.{IsEnd};
-ghost use Rattle.nn_top.specs.Laws.{AreDirs, IsOption, is_unmarked, Choice, is_choice, spelling, format_with, IsSpelled, AreSpelled, states_with};
+ghost use Rattle.nn_top.specs.Laws.{AreDirs, IsOption, is_unmarked, GivenOption, can_be_given, spelling, format_with, IsSpelled, AreSpelled, states_with};
 
 /// An option of `format` is `--name=VALUE` or `--name VALUE`: both are read alike, where the value doesn't begin with `-`.
 pub fn options_are_read_joined_or_apart()
     ensures { (front rest : List W) (option value : W) → IsOption option → is_unmarked front ≡ true → can_stand_apart value ≡ true →
-        reading_of (codes "format" ∷ (front ++ ((option ++ codes "=") ++ value) ∷ rest)) ≡ reading_of (codes "format" ∷ (front ++ option ∷ value ∷ rest)) }
+        wanted_by (codes "format" ∷ (front ++ ((option ++ codes "=") ++ value) ∷ rest)) ≡ wanted_by (codes "format" ∷ (front ++ option ∷ value ∷ rest)) }
 {}
 
 /// An option that is given twice, with one value or two, makes a line without a reading.
@@ -24,7 +24,7 @@ pub fn an_option_twice_has_no_reading()
 /// Behind the first `--` each word is a directory, a second `--` and an option's name too, and there are no others.
 pub fn words_behind_a_mark_are_the_directories()
     ensures { (command : W) (front dirs : List W) (wanted : Wanted) → is_unmarked front ≡ true → dirs ≢ [] →
-        reading_of (command ∷ (front ++ codes "--" ∷ dirs)) ≡ Some wanted → dirs_in wanted ≡ dirs }
+        wanted_by (command ∷ (front ++ codes "--" ∷ dirs)) ≡ Some wanted → dirs_in wanted ≡ dirs }
 {}
 
 /// Neither a `--` nor an option stands between two directories: such a line has no reading.
@@ -44,24 +44,24 @@ pub fn other_words_have_no_reading()
 /// The options of `format` stand before its directories and behind them: with each option once such a line has its reading, and
 /// else none. Behind a `--` that stands first, directories may begin with `-`. No other line of `format` has a reading.
 pub fn options_stand_around_directories()
-    ensures around { (front back : List Choice) (dirs end : List W) → list_all is_choice front ≡ true → list_all is_choice back ≡ true → list_all is_plain dirs ≡ true → IsEnd end →
-        reading_of (codes "format" ∷ (spelling front ++ (dirs ++ (spelling back ++ end)))) ≡ format_with (front ++ back) dirs }
-    ensures marked { (choices : List Choice) (dirs : List W) → list_all is_choice choices ≡ true →
-        reading_of (codes "format" ∷ (spelling choices ++ codes "--" ∷ dirs)) ≡ format_with choices dirs }
-    ensures only { (words : List W) (wanted : Wanted) → reading_of (codes "format" ∷ words) ≡ Some wanted →
-        (choices : List Choice) × (dirs : List W) × (list_all is_choice choices ≡ true) × IsSpelled words choices dirs × (format_with choices dirs ≡ Some wanted) }
+    ensures around { (front back : List GivenOption) (dirs end : List W) → list_all can_be_given front ≡ true → list_all can_be_given back ≡ true → list_all is_plain dirs ≡ true → IsEnd end →
+        wanted_by (codes "format" ∷ (spelling front ++ (dirs ++ (spelling back ++ end)))) ≡ format_with (front ++ back) dirs }
+    ensures marked { (choices : List GivenOption) (dirs : List W) → list_all can_be_given choices ≡ true →
+        wanted_by (codes "format" ∷ (spelling choices ++ codes "--" ∷ dirs)) ≡ format_with choices dirs }
+    ensures only { (words : List W) (wanted : Wanted) → wanted_by (codes "format" ∷ words) ≡ Some wanted →
+        (choices : List GivenOption) × (dirs : List W) × (list_all can_be_given choices ≡ true) × IsSpelled words choices dirs × (format_with choices dirs ≡ Some wanted) }
 {}
 
 /// A reading has one to eight directories, none without a name and no two with the same, or none at all, as `dry` has.
 pub fn directories_are_few_named_and_distinct()
-    ensures read { (words : List W) (wanted : Wanted) → reading_of words ≡ Some wanted → (dirs_in wanted ≡ []) ⊎ AreDirs (dirs_in wanted) }
+    ensures read { (words : List W) (wanted : Wanted) → wanted_by words ≡ Some wanted → (dirs_in wanted ≡ []) ⊎ AreDirs (dirs_in wanted) }
     ensures test { (dirs : List W) → (are_dirs dirs ≡ true) ↔ AreDirs dirs }
 {}
 
 /// The lines of `state` and `dry` that have a reading are those of directories alone, and of none.
 pub fn lines_without_options_are_directories()
-    ensures state { (words dirs : List W) → AreSpelled words dirs → reading_of (codes "state" ∷ words) ≡ states_with dirs }
-    ensures only { (words : List W) (wanted : Wanted) → reading_of (codes "state" ∷ words) ≡ Some wanted → (dirs : List W) × AreSpelled words dirs × (states_with dirs ≡ Some wanted) }
-    ensures dry { (words : List W) → IsEnd words → reading_of (codes "dry" ∷ words) ≡ Some Dry }
-    ensures only_dry { (words : List W) (wanted : Wanted) → reading_of (codes "dry" ∷ words) ≡ Some wanted → (wanted ≡ Dry) × IsEnd words }
+    ensures state { (words dirs : List W) → AreSpelled words dirs → wanted_by (codes "state" ∷ words) ≡ states_with dirs }
+    ensures only { (words : List W) (wanted : Wanted) → wanted_by (codes "state" ∷ words) ≡ Some wanted → (dirs : List W) × AreSpelled words dirs × (states_with dirs ≡ Some wanted) }
+    ensures dry { (words : List W) → IsEnd words → wanted_by (codes "dry" ∷ words) ≡ Some Dry }
+    ensures only_dry { (words : List W) (wanted : Wanted) → wanted_by (codes "dry" ∷ words) ≡ Some wanted → (wanted ≡ Dry) × IsEnd words }
 {}

@@ -2,10 +2,12 @@
 //! status. It knows neither how a command is done, nor real folders.
 #![tactic(auto)]
 
+mod exit;
 pub mod laws;
 mod run;
 mod words;
 
+pub use exit::exit_code;
 pub use nn_server::Status;
 pub use run::namenode;
 pub use words::{Command, WordsFault, command_of, dirs_of};

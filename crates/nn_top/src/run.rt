@@ -11,7 +11,7 @@ ghost use Rattle.nn_server.specs.Dry.{DryRan};
 ghost use Rattle.nn_server.specs.Codes.{dry_status};
 ghost use Rattle.nn_top.specs.Words.{texts};
 ghost use Rattle.nn_top.specs.Wanted.{dirs_in};
-ghost use Rattle.nn_top.specs.Commands.{reading_of, HaveNoReading};
+ghost use Rattle.nn_top.specs.Commands.{wanted_by, HaveNoReading};
 ghost use Rattle.nn_top.specs.Lines.{last_line};
 ghost use Rattle.nn_top.specs.Did.{Ended, Unread, Did};
 ghost use Rattle.nn_top.specs.Closes.{is_made, IsLast, last_call, Closing};
@@ -31,11 +31,11 @@ pub fn namenode<H: Host, S: Source>(
     source: &mut S,
     host: &mut H,
 ) -> Status
-    requires { (wanted : _) → reading_of (texts words.now) ≡ Some wanted → (H.state host.old).count ≡ length (dirs_in wanted) }
-    ensures reading { HaveNoReading (texts words.now) ⊎ ((wanted : _) × (reading_of (texts words.now) ≡ Some wanted)) }
+    requires { (wanted : _) → wanted_by (texts words.now) ≡ Some wanted → (H.state host.old).count ≡ length (dirs_in wanted) }
+    ensures reading { HaveNoReading (texts words.now) ⊎ ((wanted : _) × (wanted_by (texts words.now) ≡ Some wanted)) }
     ensures usage_only { result ≡ Status.Usage → HaveNoReading (texts words.now) }
     ensures usage { HaveNoReading (texts words.now) → (source.new ≡ source.old) × Unread H.told (H.state host.old) (H.state host.new) result }
-    ensures did { (wanted : _) → reading_of (texts words.now) ≡ Some wanted → (
+    ensures did { (wanted : _) → wanted_by (texts words.now) ≡ Some wanted → (
         Did H.told S.told S.left S.faults wanted source.old source.new (H.state host.old) (H.state host.new) result) }
 {
     let Some(command) = command_of(words) else {

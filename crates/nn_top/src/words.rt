@@ -4,10 +4,10 @@ ghost use Rattle.std.specs.List.{list_all, list_any, prefix_len};
 ghost use Rattle.std.specs.Str.{bytes_eq};
 ghost use Rattle.std.specs.String.{string_bytes};
 ghost use Rattle.nn_top.specs.Words.{Word as W, texts, is_plain, is_named, are_distinct, are_dirs};
-ghost use Rattle.nn_top.specs.Parts.{Dir, parts_of, is_line, is_dir, dirs_of};
+ghost use Rattle.nn_top.specs.Parts.{Dir, parts_of, is_line, is_dir, dirs_among};
 ghost use Rattle.nn_top.specs.FormatWords.{IsEnd, begins};
 ghost use Rattle.nn_top.specs.Wanted.{dirs_in};
-ghost use Rattle.nn_top.specs.Commands.{states_in, dry_in, reading_of, HaveNoReading, wanted_in};
+ghost use Rattle.nn_top.specs.Commands.{states_in, dry_in, wanted_by, HaveNoReading, wanted_in};
 
 mod format;
 mod options;
@@ -49,7 +49,7 @@ pub enum WordsFault {
 
 /// The directories of the words, in the order of the words.
 pub fn dirs_of(alloc: Global, words: &[String]) -> Result<Vec<String>, WordsFault>
-    ensures ok { IfOk result (λ dirs. (wanted : _) × (reading_of (texts words.now) ≡ Some wanted) × (texts dirs.items ≡ dirs_in wanted)) }
+    ensures ok { IfOk result (λ dirs. (wanted : _) × (wanted_by (texts words.now) ≡ Some wanted) × (texts dirs.items ≡ dirs_in wanted)) }
     ensures usage { (result ≡ Err WordsFault.Usage) ↔ HaveNoReading (texts words.now) }
 {
     let Some(command) = command_of(words) else {
@@ -75,7 +75,7 @@ impl<'a> Command<'a> {
 
 /// The command that the words ask for, or none where they have no reading.
 pub fn command_of(words: &[String]) -> Option<Command<'_>>
-    ensures some { IfSome result (λ command. reading_of (texts words.now) ≡ Some (wanted_in command)) }
+    ensures some { IfSome result (λ command. wanted_by (texts words.now) ≡ Some (wanted_in command)) }
     ensures none { IfNone result (HaveNoReading (texts words.now)) }
 {
     let (command, later) = words.split_first()?;
@@ -128,7 +128,7 @@ fn dry_asked(words: &[String]) -> Option<Command<'_>>
 // The directories of words that make a line without options.
 fn plain_dirs(words: &[String]) -> Option<&[String]>
     ensures { MatchOption result (is_line (parts_of [] (texts words.now)) ≡ false)
-        (λ dirs. (is_line (parts_of [] (texts words.now)) ≡ true) × (dirs_of (parts_of [] (texts words.now)) ≡ texts dirs.now)) }
+        (λ dirs. (is_line (parts_of [] (texts words.now)) ≡ true) × (dirs_among (parts_of [] (texts words.now)) ≡ texts dirs.now)) }
 {
     if let Some(dirs) = after_mark(words) {
         return Some(dirs);

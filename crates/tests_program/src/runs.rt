@@ -7,7 +7,7 @@ mod scripts;
 use nn_base::{DirNo, FileName, NoMemory, Sub};
 use nn_host::Host;
 use nn_memhost::{Choice, Keep, MemHost, MemSource, Part, StopFault};
-use nn_top::{command_of, namenode};
+use nn_top::{command_of, exit_code};
 use std::alloc::{AllocError, Global};
 use std::process::Abort;
 use std::test::Fail;
@@ -411,7 +411,7 @@ fn run_words(
 ) -> u8 {
     if let Some(command) = command_of(words) {
         assert!(rt; command.dirs().len() == host.count() as usize);
-        return namenode(alloc, words, source, host).code();
+        return exit_code(alloc, words, source, host);
     }
-    namenode(alloc, words, source, host).code()
+    exit_code(alloc, words, source, host)
 }

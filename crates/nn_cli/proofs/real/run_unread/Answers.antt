@@ -6,11 +6,11 @@ use Rattle.nn_top.proofs.ReadingLemmas.{read_or_not}
 use Rattle.nn_cli.proofs.ExitLemmas.{exits_starved, exits_unread}
 use Rattle.nn_cli.proofs.real.run_unread.Goals as goal
 
-pub namenode-requires : goal.namenode-requires
-namenode-requires g c = λ wanted asks. absurd (read_or_not (texts c.args.words.now) wanted asks c.requires)
+pub exit_code-requires : goal.exit_code-requires
+exit_code-requires g c = λ wanted asks. absurd (read_or_not (texts c.args.words.now) wanted asks c.requires)
 
 pub returns : goal.returns
 returns g c = exits_starved (texts c.args.words.now) c.starved.result c.starved.ensures
 
 pub returns-in-Ok : goal.returns-in-Ok
-returns-in-Ok g c = exits_unread (texts c.args.words.now) c.namenode.result c.code.result c.requires c.code.ensures (c.in-Ok.ensures ∙ ap (λ (items : List (String _)). unfailed_state (length items)) c.new.ensures.items) (c.namenode.ensures.usage c.requires).1
+returns-in-Ok g c = exits_unread (texts c.args.words.now) c.exit_code.result c.requires (c.in-Ok.ensures ∙ ap (λ (items : List (String _)). unfailed_state (length items)) c.new.ensures.items) (c.exit_code.ensures.usage c.requires).1

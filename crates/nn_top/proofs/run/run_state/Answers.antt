@@ -1,4 +1,4 @@
-use Rattle.std.proofs.Common.{sym, subst}
+use Rattle.std.proofs.Common.{subst}
 use Rattle.nn_server.specs.declared.status.Status.{Status}
 use Rattle.nn_top.specs.Closes.{Closing}
 use Rattle.nn_top.proofs.DidLemmas.{state_ended}

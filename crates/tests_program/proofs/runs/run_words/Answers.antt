@@ -7,10 +7,10 @@ use Rattle.nn_top.specs.Commands.{wanted_in}
 use Rattle.nn_top.proofs.ReadingLemmas.{one_reading, read_or_not}
 use Rattle.tests_program.proofs.runs.run_words.Goals as goal
 
-pub namenode-requires : goal.namenode-requires
-namenode-requires g c = λ wanted asks.
+pub exit_code-requires : goal.exit_code-requires
+exit_code-requires g c = λ wanted asks.
     let same = ap (λ (w : Wanted). length (dirs_in w)) (one_reading (texts c.args.words.now) (wanted_in c.in-Some.command) wanted c.in-Some.ensures.some asks) in
     omega (arith, same, ap length c.dirs.ensures, length-map c.dirs.result.now string_bytes, c.count.ensures.count)
 
-pub namenode-requires-2 : goal.namenode-requires-2
-namenode-requires-2 g c = λ wanted asks. absurd (read_or_not (texts c.args.words.now) wanted asks c.in_default.ensures.none)
+pub exit_code-requires-2 : goal.exit_code-requires-2
+exit_code-requires-2 g c = λ wanted asks. absurd (read_or_not (texts c.args.words.now) wanted asks c.in_default.ensures.none)
