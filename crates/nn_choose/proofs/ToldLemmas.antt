@@ -1,5 +1,5 @@
 -- No refusal of VERSIONs tells of an image.
-use Rattle.std.proofs.Common.{◌≡◌, ℕ, Bool, true, false, List, Option, Some, None, refl}
+use Rattle.std.proofs.Common.{◌≡◌, ℕ, Bool, true, false, List, Option, Some, None}
 use Rattle.std.specs.Prelude.{option_map, if◌then◌else◌}
 use Rattle.nn_marks.specs.declared.key.Key.{Key}
 use Rattle.nn_pick.specs.declared.fault.OpenFault.TheVariants.{Refused}
