@@ -74,7 +74,7 @@ module _ (folder : Folder) (layout : ℤ) (id : ℕ) where
   -- ---- a segment in progress
 
   module _ (first : ℕ) where
-    pub progress_begun_beyond : id < first → IsFate folder layout id (name.InProgress first) Beyond
+    pub progress_begun_beyond : id < first → IsBeyond folder layout id (name.InProgress first)
     progress_begun_beyond above = inl (first, refl, above)
 
     pub progress_read_beyond : (last : ℕ) → IsInRange (name.InProgress first) → ReadTo folder layout (name.InProgress first) first (Some last) → first ≤ last → id < last → IsFate folder layout id (name.InProgress first) Beyond

@@ -1,9 +1,7 @@
 -- What is planned, as one file after the other is looked at, and for all of them in one list.
-use Rattle.std.proofs.Common.{◌≡◌, ◌≢◌, ◌⊎◌, inl, inr, ⊎_elim, ℕ, zero, suc, ◌+◌, ◌<◌, ℤ, Bool, true, false, ◌||◌, List, [], ◌∷◌, ◌++◌, length, get_or, take, Contains, Option, Some, None, refl, sym, ◌∙◌, ap, subst, arith, length-append}
-use Rattle.std.specs.List.{AllPairs}
-use Rattle.std.proofs.lemmas.List.{append-nil, take_more, get_or_append_left, get_or-append-add}
-use Rattle.std.proofs.lemmas.List.Elements.{Contains-append_left, Contains-push, Contains-push_cases, Contains-get_or}
-use Rattle.std.proofs.lemmas.List.Quantifiers.{all_pairs_push}
+use Rattle.std.proofs.Common.{◌≡◌, ◌≢◌, ◌⊎◌, inl, inr, ⊎_elim, ℕ, ◌+◌, ◌<◌, ℤ, Bool, true, false, ◌||◌, List, [], ◌∷◌, ◌++◌, length, get_or, take, Contains, Option, Some, None, refl, sym, ◌∙◌, ap, subst, arith}
+use Rattle.std.proofs.lemmas.List.{append-nil, take_more}
+use Rattle.std.proofs.lemmas.List.Elements.{Contains-append_left, Contains-push, Contains-push_cases}
 use Rattle.std.proofs.lemmas.Option.{none-some}
 use Rattle.nn_base.specs.declared.file_name.FileName.{FileName}
 use Rattle.nn_base.specs.declared.file_name.FileName.TheVariants as name
@@ -13,36 +11,11 @@ use Rattle.nn_chain.specs.Records.{first_in}
 use Rattle.nn_remake.specs.Removing.{is_later_image}
 use Rattle.nn_remake.specs.Tidying.{is_unnamed, IsBeyond}
 use Rattle.nn_tidy.specs.declared.fate.Fate.TheVariants.{Stays}
+use Rattle.nn_tidy.proofs.PairLemmas.{pairs_across, pairs_front, pairs_push}
 use Rattle.nn_tidy.specs.declared.steps.Step.{Step}
 use Rattle.nn_tidy.specs.declared.plan.Plan.{Plan}
 use Rattle.nn_tidy.specs.Fates.{is_loose, IsEnding, IsFate}
 use Rattle.nn_tidy.specs.Plans.{ArePicked, IsLooseStep, IsBeyondStep, IsPlan}
-
--- ---- lists
-
-pub same_default : {X : Type 0} (xs : List X) (j : ℕ) (d e : X) → j < length xs → get_or xs j d ≡ get_or xs j e
-same_default [] j d e lt = absurd (omega (arith, lt))
-same_default (x ∷ xs) zero d e lt = refl
-same_default (x ∷ xs) (suc j) d e lt = same_default xs j d e (omega (arith, lt))
-
-module _ {X : Type 0} (R : X → X → Type 0) where
-  -- of two lists, one behind the other
-  pub pairs_across : (xs ys : List X) (a b : X) → AllPairs R (xs ++ ys) → Contains xs a → Contains ys b → R a b
-  pairs_across xs ys a b pairs a_in b_in =
-      let first : get_or (xs ++ ys) a_in.0 a ≡ a = get_or_append_left xs ys a a_in.0 a_in.1 ∙ a_in.2 in
-      let second : get_or (xs ++ ys) (length xs + b_in.0) a ≡ b = get_or-append-add xs ys b_in.0 a ∙ same_default ys b_in.0 a b b_in.1 ∙ b_in.2 in
-      subst (λ (x : X). R x b) first
-      (subst (λ (y : X). R (get_or (xs ++ ys) a_in.0 a) y) second (pairs a_in.0 (length xs + b_in.0) a (omega (arith, a_in.1)) (omega (arith, b_in.1, length-append xs ys))))
-
-  pub pairs_front : (xs ys : List X) → AllPairs R (xs ++ ys) → AllPairs R xs
-  pairs_front xs ys pairs i j d lt below =
-      let first = get_or_append_left xs ys d i (omega (arith, lt, below)) in
-      let second = get_or_append_left xs ys d j below in
-      subst (λ (x : X). R x (get_or xs j d)) first
-      (subst (λ (y : X). R (get_or (xs ++ ys) i d) y) second (pairs i j d lt (omega (arith, below, length-append xs ys))))
-
-  pub pairs_push : (xs : List X) (y : X) → AllPairs R xs → ((x : X) → Contains xs x → R x y) → AllPairs R (xs ++ y ∷ [])
-  pairs_push xs y pairs last = all_pairs_push R xs y pairs (λ k d below. last (get_or xs k d) (Contains-get_or xs k d below))
 
 -- ---- one file more
 

@@ -14,7 +14,7 @@ use Rattle.nn_host.proofs.MakesLemmas.{Makes}
 use Rattle.nn_host.proofs.WorkLemmas.{work_refl, work_more}
 use Rattle.nn_tidy.specs.declared.steps.Step.{Step}
 use Rattle.nn_tidy.specs.Steps.{call_by, call_of, IsApart, AreApart, AreThere, HasTaken, AreTaken, WereTaken}
-use Rattle.nn_tidy.proofs.PlanLemmas.{pairs_across}
+use Rattle.nn_tidy.proofs.PairLemmas.{pairs_across}
 
 -- ---- one step more
 

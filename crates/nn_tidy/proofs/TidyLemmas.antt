@@ -1,20 +1,14 @@
 -- What the planned steps make of a folder: it is being tidied, and then it is tidy.
-use Rattle.std.proofs.Common.{◌≡◌, ◌≢◌, ◌⊎◌, inl, inr, ⊎_elim, ℕ, ◌+◌, ◌-◌, ◌<◌, ◌≤◌, ℤ, true, List, [], ◌∷◌, ◌++◌, length, get_or, Contains, Option, Some, None, is_some, refl, sym, ◌∙◌, ap, subst, arith, length-append}
+use Rattle.std.proofs.Common.{◌≡◌, ◌≢◌, ◌⊎◌, inl, inr, ⊎_elim, ℕ, ℤ, true, List, [], ◌∷◌, ◌++◌, get_or, Contains, Option, Some, None, is_some, refl, sym, ◌∙◌, ap, subst, arith}
 use Rattle.std.specs.List.{AllPairs}
-use Rattle.std.proofs.lemmas.Cmp.{nat_list_cmp_total}
 use Rattle.std.proofs.lemmas.Option.{none-some, same_Some}
-use Rattle.std.proofs.lemmas.List.{get_or_append_left, get_or-append-add}
 use Rattle.std.proofs.lemmas.List.Elements.{Contains-append_left, Contains-append_right, Contains-append_cases, Contains-push, Contains-push_cases, Contains-get_or}
 use Rattle.nn_base.specs.declared.sub.Sub.TheVariants.{Current}
 use Rattle.nn_base.specs.declared.file_name.FileName.{FileName}
 use Rattle.nn_base.specs.declared.file_name.FileName.TheVariants as name
-use Rattle.nn_base.specs.FileText.{text_of}
-use Rattle.nn_base.specs.Names.{first_id, last_id}
 use Rattle.nn_base.proofs.NamesLemmas.{file_tells}
 use Rattle.nn_host.specs.Disk.{Held, Reads}
 use Rattle.nn_host.specs.Listing.{IsListing, IsBefore}
-use Rattle.nn_record.specs.declared.transaction.Record.{Record}
-use Rattle.nn_segment.proofs.RunLemmas.{run_from, id_at}
 use Rattle.nn_chain.specs.Folder.{Folder, folder_at}
 use Rattle.nn_remake.specs.Tidying.{IsBeyond, RunEnds, GetsName, GetsNone, Goes, IsRenamed, IsTidying, IsTidied}
 use Rattle.nn_remake.proofs.CuttingLemmas.{IsListed, contains_or}
@@ -24,107 +18,9 @@ use Rattle.nn_tidy.specs.declared.plan.Plan.{Plan}
 use Rattle.nn_tidy.specs.Steps.{IsApart, AreApart, AreThere, HasTaken, AreTaken}
 use Rattle.nn_tidy.specs.Fates.{is_loose, IsEnding}
 use Rattle.nn_tidy.specs.Plans.{IsLooseStep, IsBeyondStep, IsPlan}
-use Rattle.nn_tidy.proofs.PlanLemmas.{pairs_across, loose_or, or_loose, loose_not_beyond, loose_not_ending, ending_below}
-
--- ---- names
-
-in_order : (a b : FileName) → IsBefore a b → IsBefore b a → ⊥
-in_order a b one other = let turned = nat_list_cmp_total.antisymm (text_of a) (text_of b) in cc
-
-before_other : (a b : FileName) → IsBefore a b → a ≢ b
-before_other a b before same = in_order a b before (subst (λ (x : FileName). IsBefore b x) (sym same) (subst (λ (x : FileName). IsBefore x b) same before))
-
-same_progress : (a b : ℕ) → name.InProgress a ≡ name.InProgress b → a ≡ b
-same_progress a b e = ap first_id e
-
-same_edits : (a b : ℕ × ℕ) → name.Edits a ≡ name.Edits b → (a.0 ≡ b.0) × (a.1 ≡ b.1)
-same_edits a b e = (ap first_id e, ap last_id e)
-
-module _ {X : Type 0} (R : X → X → Type 0) where
-  pairs_joined : (xs ys : List X) → AllPairs R xs → AllPairs R ys → ((a b : X) → Contains xs a → Contains ys b → R a b) → AllPairs R (xs ++ ys)
-  pairs_joined xs ys front back cross i j d lt below = ⊎_elim
-      (λ near.
-      let first = get_or_append_left xs ys d i (omega (arith, lt, near)) in
-      let second = get_or_append_left xs ys d j near in
-      subst (λ (x : X). R x (get_or (xs ++ ys) j d)) (sym first) (subst (λ (y : X). R (get_or xs i d) y) (sym second) (front i j d lt near)))
-      (λ far. ⊎_elim
-      (λ near.
-      let first = get_or_append_left xs ys d i near in
-      let second = behind xs ys j d far in
-      let lj : j - length xs < length ys = omega (arith, below, far, length-append xs ys) in
-      subst (λ (x : X). R x (get_or (xs ++ ys) j d)) (sym first) (subst (λ (y : X). R (get_or xs i d) y) (sym second) (cross (get_or xs i d) (get_or ys (j - length xs) d) (Contains-get_or xs i d near) (Contains-get_or ys (j - length xs) d lj))))
-      (λ beyond.
-      let first = behind xs ys i d beyond in
-      let second = behind xs ys j d far in
-      let lj : j - length xs < length ys = omega (arith, below, far, length-append xs ys) in
-      let li : i - length xs < j - length xs = omega (arith, lt, beyond) in
-      subst (λ (x : X). R x (get_or (xs ++ ys) j d)) (sym first) (subst (λ (y : X). R (get_or ys (i - length xs) d) y) (sym second) (back (i - length xs) (j - length xs) d li lj)))
-      (lt_or i (length xs)))
-      (lt_or j (length xs))
-    where
-      lt_or : (a b : ℕ) → (a < b) ⊎ (b ≤ a)
-      lt_or a b = grind arith
-
-      behind : (xs ys : List X) (k : ℕ) (d : X) → length xs ≤ k → get_or (xs ++ ys) k d ≡ get_or ys (k - length xs) d
-      behind xs ys k d le =
-          let sum : length xs + (k - length xs) ≡ k = omega (arith, le) in
-          subst (λ (m : ℕ). get_or (xs ++ ys) m d ≡ get_or ys (k - length xs) d) sum (get_or-append-add xs ys (k - length xs) d)
-
-  pairs_weaker : {S : X → X → Type 0} (xs : List X) → ((a b : X) → Contains xs a → Contains xs b → S a b → R a b) → AllPairs S xs → AllPairs R xs
-  pairs_weaker xs weaker pairs i j d lt below = weaker (get_or xs i d) (get_or xs j d) (Contains-get_or xs i d (omega (arith, lt, below))) (Contains-get_or xs j d below) (pairs i j d lt below)
-
--- ---- segments
-
-module _ (folder : Folder) (layout : ℤ) (id : ℕ) where
-  first_at_most : (first last : ℕ) → RunEnds folder layout first last → first ≤ last
-  first_at_most first last ends =
-      let h = ends.holds in
-      let at = id_at h.first h.run h.has.0 ends.final (run_from h.bytes layout h.first h.run h.intact.run) h.has.1 in
-      let is = ap (λ (r : Record). r.id) h.has.2 in
-      let begins = same_Some first h.first h.begins in
-      let end = ends.id_is in
-      omega (arith, at, is, begins, end)
-
-  one_end : (first last other : ℕ) → RunEnds folder layout first last → RunEnds folder layout first other → last ≡ other
-  one_end first last other a b = either (lt_or last other)
-    where
-      lt_or : (x y : ℕ) → (x < y) ⊎ (y < x) ⊎ (x ≡ y)
-      lt_or x y = grind arith
-
-      either : (last < other) ⊎ (other < last) ⊎ (last ≡ other) → last ≡ other
-      either (inl lt) = absurd (a.none b.final (let is = b.id_is in omega (arith, is, lt)) b.holds)
-      either (inr (inl lt)) = absurd (b.none a.final (let is = a.id_is in omega (arith, is, lt)) a.holds)
-      either (inr (inr e)) = e
-
-  -- a segment that gets its last name isn't beyond, under neither name
-  module _ (first last : ℕ) (gets : GetsName folder layout id first last) where
-    old_not_beyond : ¬ IsBeyond folder layout id (name.InProgress first)
-    old_not_beyond (inl beyond) =
-        let order = first_at_most first last gets.ends in
-        let most = gets.most in
-        let same = same_Some first beyond.0 beyond.1 in
-        let above = beyond.2 in
-        omega (arith, order, most, same, above)
-    old_not_beyond (inr beyond) = gets.ends.none beyond.0 (let most = gets.most in let above = beyond.1 in omega (arith, most, above)) beyond.2
-
-    new_not_beyond : ¬ IsBeyond folder layout id (name.Edits (first, last))
-    new_not_beyond (inl beyond) =
-        let order = first_at_most first last gets.ends in
-        let most = gets.most in
-        let same = same_Some first beyond.0 beyond.1 in
-        let above = beyond.2 in
-        omega (arith, order, most, same, above)
-    new_not_beyond (inr beyond) =
-        let within = beyond.2.within in
-        let most = gets.most in
-        let above = beyond.1 in
-        omega (arith, within, most, above)
-
-    new_stays : ¬ Goes folder layout id (name.Edits (first, last))
-    new_stays (inl e) = cc
-    new_stays (inr (inl e)) = cc
-    new_stays (inr (inr (inl beyond))) = new_not_beyond beyond
-    new_stays (inr (inr (inr none))) = not_progress (first, last) none.0 none.1
+use Rattle.nn_tidy.proofs.PairLemmas.{pairs_across, pairs_joined, pairs_weaker}
+use Rattle.nn_tidy.proofs.SegmentLemmas.{in_order, before_other, same_progress, same_edits, one_end, old_not_beyond, new_not_beyond, new_stays}
+use Rattle.nn_tidy.proofs.PlanLemmas.{loose_or, or_loose, loose_not_beyond, loose_not_ending, ending_below}
 
 -- ---- the steps of a plan
 

@@ -30,6 +30,8 @@ pub(crate) enum Fate {
     Ends(Option<FileName>),
 }
 
+/// What becomes of this file, beside the image of this id. A segment that may have a later record is read, and each in
+/// progress.
 pub(crate) fn fate_of<H: Host>(
     alloc: Global,
     host: &mut H,
