@@ -39,7 +39,8 @@ pub struct Picked<T: Tree> {
 /// What the directories open to for a start: the chain of those of the greatest rank, which is the pair of cTime and last
 /// id. Or the first refusal of their table, of the lowest directory that it applies to. Nothing is changed.
 ///
-/// Each directory of the greatest cTime is loaded once, and no other; two namespaces and one file are in memory at most.
+/// Each directory of the greatest cTime is loaded once, and no other; two namespaces are in memory at most, and what
+/// loading one directory takes.
 ///
 /// Like Hadoop's `FSImage.recoverTransitionRead` and `FSImageTransactionalStorageInspector`, but that directories are
 /// compared by how far their records go.
