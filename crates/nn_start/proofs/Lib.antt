@@ -1,0 +1,12 @@
+pub mod SettleLemmas
+pub mod ReopenLemmas
+pub mod OpenLemmas
+pub mod BringLemmas
+pub mod WalkLemmas
+pub mod PhaseLemmas
+pub mod AllBroughtLemmas
+pub mod PublishLemmas
+pub mod ReadyLemmas
+pub mod SavedLemmas
+pub mod TogetherLemmas
+pub mod TidyLemmas

@@ -1,0 +1,4 @@
+pub mod Entry
+pub mod Bringing
+pub mod Publishing
+pub mod Together
