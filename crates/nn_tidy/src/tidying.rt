@@ -1,5 +1,5 @@
 // A directory that is tidied.
-ghost use Rattle.std.specs.Prelude.{◌≡◌, ◌<◌, OnOk, IfOk};
+ghost use Rattle.std.specs.Prelude.{◌≡◌, ◌<◌, OnOk, IfOk, IsErrOf};
 ghost use Rattle.nn_base.specs.declared.sub.Sub.TheVariants.{Current};
 ghost use Rattle.nn_host.specs.Moments.{disk_at};
 ghost use Rattle.nn_host.specs.Runs.{OnlyAt};
@@ -33,6 +33,7 @@ pub fn tidy<H: Host>(
     ensures ok { H.told → OnOk result (WasTidied version.now.layout id i.0 (H.state host.old) (H.state host.new)) }
     ensures tidy { H.told → OnOk result (IsTidy (folder_at ((H.state host.new).reads i.0) Current) version.now.layout id) }
     ensures any_moment { OnlyAt H.told i.0 (H.state host.old) (H.state host.new) (IsTidying (folder_at ((H.state host.old).reads i.0) Current) version.now.layout id (disk_at (H.state host.old) i.0)) }
+    ensures memory { H.told → IsErrOf result MakeFault.Memory → disk_at (H.state host.new) i.0 ≡ disk_at (H.state host.old) i.0 }
     ensures cause { IsCountedBy i.0 (H.state host.old) (H.state host.new) result }
 {
     let names = names_of(alloc, host, i)?;
