@@ -1,5 +1,5 @@
 -- How the lines of an answer are spelled.
-use Rattle.std.specs.Prelude.{◌≢◌, ℕ, ◌/◌, ◌%◌, Bool, not, ◌&&◌, ◌==◌, nat_le, List, [], ◌∷◌, ◌++◌, codes, if◌then◌else◌}
+use Rattle.std.specs.Prelude.{◌≢◌, ℕ, zero, suc, ◌/◌, ◌%◌, Bool, not, ◌&&◌, ◌==◌, nat_le, List, [], ◌∷◌, ◌++◌, codes, if◌then◌else◌}
 use Rattle.std.specs.List.{flat_map, join_with_byte}
 use Rattle.std.specs.Char.{digit_char}
 use Rattle.std.specs.Fmt.{decimal}
@@ -11,7 +11,7 @@ use Rattle.nn_ops.specs.declared.refusal.OpRefusal.TheVariants as refusal
 use Rattle.nn_script.specs.declared.syntax.Syntax.{Syntax}
 use Rattle.nn_script.specs.declared.syntax.Syntax.TheVariants as syntax
 use Rattle.nn_script.specs.declared.answer.Answer.{Answer}
-use Rattle.nn_script.specs.declared.answer.Answer.TheVariants.{Done, Count, Refused, Dry, Unread}
+use Rattle.nn_script.specs.declared.answer.Answer.TheVariants.{Done, Count, Refused, Dry, Later, Unread}
 
 -- words with a space between each two, and a newline
 abbrev pub line_of : List Bytes → Bytes
@@ -77,6 +77,7 @@ answer_words Done = codes "ok" ∷ []
 answer_words (Count count) = codes "ok" ∷ decimal count ∷ []
 answer_words (Refused refusal) = codes "refused" ∷ refusal_word refusal ∷ []
 answer_words Dry = codes "refused" ∷ codes "dry" ∷ []
+answer_words Later = codes "refused" ∷ codes "later" ∷ []
 answer_words (Unread fault) = codes "syntax" ∷ syntax_words fault
 
 -- want of memory is never said
@@ -85,6 +86,7 @@ IsSaid Done = Unit {0}
 IsSaid (Count count) = Unit {0}
 IsSaid (Refused why) = why ≢ refusal.Memory
 IsSaid Dry = Unit {0}
+IsSaid Later = Unit {0}
 IsSaid (Unread fault) = (fault ≢ syntax.Memory) × (fault ≢ syntax.Path path.Memory)
 
 abbrev pub answer_text : Answer → Bytes
@@ -93,3 +95,18 @@ answer_text answer = line_of (answer_words answer)
 -- the most bytes that the last line of an answer has, as `MAX_ANSWER` of the code
 abbrev pub max_answer : ℕ
 max_answer = 24
+
+-- ---- directories
+
+-- whether a directory is still written to
+abbrev pub dir_line : ℕ → Bool → Bytes
+dir_line i live = line_of (codes "dir" ∷ decimal i ∷ (if live then codes "live" else codes "dropped") ∷ [])
+
+-- the lines of the first n directories
+abbrev pub dir_lines : (ℕ → Bool) → ℕ → Bytes
+dir_lines live zero = []
+dir_lines live (suc n) = dir_lines live n ++ dir_line n (live n)
+
+-- the most bytes that such a line has, as `MAX_DIR_LINE` of the code
+abbrev pub max_dir_line : ℕ
+max_dir_line = 33

@@ -23,6 +23,8 @@ pub enum Answer {
     Refused(OpRefusal),
     /// `refused dry`: there are no directories
     Dry,
+    /// `refused later`: a run can't do this to its directories yet
+    Later,
     /// `syntax WORD`: the line says no command. It is never for want of memory.
     Unread(Syntax),
 }
@@ -47,6 +49,7 @@ impl Answer {
                 put_word(refusal_word(refusal).as_bytes(), out);
             }
             Answer::Dry => put(b"refused dry", out),
+            Answer::Later => put(b"refused later", out),
             Answer::Unread(fault) => {
                 put(b"syntax", out);
                 put_fault(fault, out);

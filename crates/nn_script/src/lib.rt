@@ -7,6 +7,7 @@ mod answer;
 mod append;
 mod argument;
 mod command;
+mod dirs;
 mod escape;
 mod line;
 mod listing;
@@ -16,6 +17,7 @@ mod words;
 
 pub use answer::{Answer, MAX_ANSWER};
 pub use command::ScriptCommand;
+pub use dirs::{MAX_DIR_LINE, dir_line};
 pub use escape::escapes_read_back;
 pub use line::line_read;
 pub use listing::{MAX_PART, block_line, name_text, node_words};

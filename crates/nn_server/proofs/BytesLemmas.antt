@@ -9,10 +9,6 @@ use Rattle.nn_base.proofs.MarkLemmas.{is_mark}
 abbrev pub is_newline : ℕ → Bool
 is_newline byte = is_mark 10 byte
 
-pub no_bytes : (bytes : List ℕ) → length bytes ≡ 0 → bytes ≡ []
-no_bytes [] e = refl
-no_bytes (byte ∷ bytes) e = absurd (omega (arith, e))
-
 -- ---- parts of a buffer
 
 -- what is behind the first bytes of a part of a buffer

@@ -21,14 +21,14 @@ use Rattle.nn_server.specs.Reading.{most_kept}
 use Rattle.nn_server.specs.Reader.{EndedLine, LastLine, NoLine, PastBudget, Stopped, IsNextLine}
 use Rattle.nn_server.specs.Came.{is_out_fault, CameTo}
 use Rattle.nn_server.specs.Codes.{dry_status}
-use Rattle.nn_server.specs.Saying.{CutOff, SaysAll, BreaksOff, pieces_of}
+use Rattle.nn_say.specs.Saying.{CutOff, SaysAll, BreaksOff, pieces_of}
 use Rattle.nn_server.specs.Answered.{Answered}
 use Rattle.nn_base.specs.Limits.{most_script}
 use Rattle.nn_server.specs.Dry.{due_lines, pieces_to, AnswersTo, AreRead, DrySays, FitsTaken, OfScript, dry_end, source_counts, DryRan}
 use Rattle.nn_server.proofs.LinesLemmas.{Ended, stripped, ended_nothing, ended_more, lines_done, ended_done, ended_unended, lines_unended, due_short, due_first}
 use Rattle.nn_server.proofs.LongLemmas.{front_reads_alike, stripped_reads_alike}
 use Rattle.nn_server.proofs.CameLemmas.{said_since, since_is, speaks_whole, touches_none}
-use Rattle.nn_server.proofs.SayingLemmas.{concat-append, concat_pieces, says_nothing, says_then, breaks_after}
+use Rattle.nn_say.proofs.SayingLemmas.{concat-append, concat_pieces, says_nothing, says_then, breaks_after}
 
 -- ---- answers to lines, one behind another
 

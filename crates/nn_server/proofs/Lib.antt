@@ -2,9 +2,7 @@ pub mod BytesLemmas
 pub mod ReaderLemmas
 pub mod LinesLemmas
 pub mod LongLemmas
-pub mod SayingLemmas
 pub mod DryLemmas
-pub mod ListingLemmas
 pub mod CameLemmas
 pub mod ShortLemmas
 pub mod StatesLemmas

@@ -12,7 +12,8 @@ use Rattle.nn_server.specs.declared.reader.Next.TheVariants.{TooLong}
 use Rattle.nn_server.specs.Reading.{most_kept, front_of, kept_of, past_of, IsBehind}
 use Rattle.nn_server.specs.Reader.{EndedLine, IsNextLine, Stopped, PartRead, HasRead, Refilled}
 use Rattle.nn_base.proofs.MarkLemmas.{split_at_mark, mark_within, no_mark_before, no_mark}
-use Rattle.nn_server.proofs.BytesLemmas.{is_newline, range_rest, front_front, no_bytes}
+use Rattle.nn_server.proofs.BytesLemmas.{is_newline, range_rest, front_front}
+use Rattle.nn_say.proofs.SayingLemmas.{no_bytes}
 
 pub has_read_nothing : {told : Type 0} (before : Bytes) (budget : ℕ) (line : Bytes) → line ≡ [] → HasRead told before before budget budget line
 has_read_nothing before budget line e = record { body = []; unended = All-nil (λ byte. is_newline byte ≡ false); is = e ∙ front_nil; bytes = λ tells. refl; budget = omega arith }

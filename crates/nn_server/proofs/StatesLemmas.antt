@@ -15,9 +15,11 @@ use Rattle.nn_pick.specs.Refused.{unusable, or_else}
 use Rattle.nn_server.specs.declared.status.Status.TheVariants as status
 use Rattle.nn_server.specs.declared.state_run.StateEnd.TheVariants.{Done, Refused, HostFault, Memory, OutFault}
 use Rattle.nn_server.specs.Lines.{state_line}
-use Rattle.nn_server.specs.Came.{Records, CameTo}
+use Rattle.nn_say.specs.Records.{Records}
+use Rattle.nn_server.specs.Came.{CameTo}
 use Rattle.nn_server.specs.States.{found, state_lines, first_unusable, state_status, LooksAt, NameInTurn, StateRan}
-use Rattle.nn_server.proofs.CameLemmas.{records_nothing, records_then, records_as, spoke_records, cut_records, looks_record, said_since, speaks_whole, speaks_cut, cut_since}
+use Rattle.nn_say.proofs.RecordsLemmas.{records_nothing, records_then, records_as, spoke_records, cut_records}
+use Rattle.nn_server.proofs.CameLemmas.{looks_record, said_since, speaks_whole, speaks_cut, cut_since}
 
 -- the first k directories were looked at and their lines said
 pub record SoFar (told : Type 0) (k : ℕ) (start now : State) (first : Option Refusal) : Type 0 where

@@ -5,7 +5,7 @@ use Rattle.nn_host.specs.declared.host.Failed.{Failed}
 use Rattle.nn_script.specs.Answers.{State, Reply}
 use Rattle.nn_server.specs.declared.session.Unsaid.{Unsaid}
 use Rattle.nn_server.specs.declared.session.Unsaid.TheVariants.{Memory, Output}
-use Rattle.nn_server.specs.Saying.{SaysAll, BreaksOff, pieces_of}
+use Rattle.nn_say.specs.Saying.{SaysAll, BreaksOff, pieces_of}
 
 -- the output failed over it, or it was said whole
 abbrev pub unless_failed : Result (Unit {0}) Failed → Result (Unit {0}) Unsaid

@@ -11,15 +11,6 @@ abbrev pub is_out_fault : Status → Bool
 is_out_fault OutFault = true
 is_out_fault status = false
 
-abbrev pub calls_in : List Entry → List Event
-calls_in entries = map (λ (e : Entry). e.event) entries
-
--- the record of calls grew by these, and by no other
-pub record Records (calls : List Event) (before after : List Entry) : Type 0 where
-  pub more : List Entry
-  pub trace : after ≡ before ++ more
-  pub are : calls_in more ≡ calls
-
 -- these lines were said from old to new; the output failed exactly where the status tells so, and after that nothing was said
 pub record Speaks (told : Type 0) (old new : State) (lines : Bytes) (status : Status) : Type 0 where
   pub said : told → new.now.said ≡ old.now.said ++ lines

@@ -10,8 +10,9 @@ use Rattle.nn_server.specs.declared.dry_run.DryEnd.{DryEnd}
 use Rattle.nn_server.specs.declared.dry_run.DryEnd.TheVariants.{Done, SourceFault, ScriptTooLong, Memory, OutFault}
 use Rattle.nn_server.specs.declared.session.Unsaid.{Unsaid}
 use Rattle.nn_server.specs.declared.session.Unsaid.TheVariants as unsaid
-use Rattle.nn_server.specs.Came.{Records, TouchesNoDir}
-use Rattle.nn_server.specs.Saying.{CutOff, pieces_of}
+use Rattle.nn_say.specs.Records.{Records}
+use Rattle.nn_server.specs.Came.{TouchesNoDir}
+use Rattle.nn_say.specs.Saying.{CutOff, pieces_of}
 
 -- the lines that are due an answer: all of a script, or of one that is too long those that end within the bytes that it may have
 abbrev pub due_lines : Bytes → List Bytes

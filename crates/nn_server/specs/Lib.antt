@@ -6,7 +6,5 @@ pub mod Format
 pub mod Reading
 pub mod Reader
 pub mod Scene
-pub mod Listed
-pub mod Saying
 pub mod Answered
 pub mod Dry

@@ -14,7 +14,8 @@ use Rattle.nn_server.specs.declared.status.Status.TheVariants as status
 use Rattle.nn_server.specs.declared.state_run.StateEnd.{StateEnd}
 use Rattle.nn_server.specs.declared.state_run.StateEnd.TheVariants.{Done, Refused, HostFault, Memory, OutFault}
 use Rattle.nn_server.specs.Lines.{state_line}
-use Rattle.nn_server.specs.Came.{Records, Counts}
+use Rattle.nn_say.specs.Records.{Records}
+use Rattle.nn_server.specs.Came.{Counts}
 
 -- what the table says of directory i
 abbrev pub found : (ℕ → Reads) → ℕ → Result StorageState Why

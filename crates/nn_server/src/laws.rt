@@ -7,7 +7,7 @@ ghost use Rattle.nn_script.specs.declared.command.ScriptCommand.TheVariants as c
 ghost use Rattle.nn_script.specs.Reading.{reading_of};
 ghost use Rattle.nn_script.specs.Spelling.{max_answer};
 ghost use Rattle.nn_script.specs.Answers.{State, answer_of, answers};
-ghost use Rattle.nn_server.specs.Saying.{CutOff, pieces_of};
+ghost use Rattle.nn_say.specs.Saying.{CutOff, pieces_of};
 ghost use Rattle.nn_server.specs.Dry.{pieces_to};
 
 /// An answer goes out in the pieces of its text, a call each, as the record of calls says: one that

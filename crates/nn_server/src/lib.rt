@@ -5,9 +5,7 @@
 mod dry_run;
 mod format_run;
 mod laws;
-mod listing;
 mod reader;
-mod say;
 mod session;
 mod state_run;
 mod status;

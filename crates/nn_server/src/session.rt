@@ -4,19 +4,17 @@ ghost use Rattle.nn_ops.specs.Commands.{IsCommand};
 ghost use Rattle.nn_ops.specs.Step.{step};
 ghost use Rattle.nn_script.specs.Reading.{IsInRange};
 ghost use Rattle.nn_script.specs.Spelling.{IsSaid, answer_text};
-ghost use Rattle.nn_script.specs.Answers.{answer_of, reply_to, change_reply, list_text};
+ghost use Rattle.nn_script.specs.Answers.{answer_of, reply_to, change_reply};
 ghost use Rattle.nn_script.specs.Answers.{first_state};
 ghost use Rattle.nn_server.specs.Scene.{scene};
 ghost use Rattle.nn_server.specs.Answered.{Answered, unless_failed};
-ghost use Rattle.nn_server.specs.Saying.{Says};
 
-use crate::listing::say_listing;
-use crate::say::Speech;
-use nn_base::{NoMemory, Path};
+use nn_base::NoMemory;
 use nn_host::{Failed, Host};
 use nn_ops::{Command, OpRefusal, apply, prepare};
+use nn_say::{Speech, say_list};
 use nn_script::{Answer, ScriptCommand, Syntax, line_read};
-use nn_tree::{Tree, Walk};
+use nn_tree::Tree;
 use std::alloc::Global;
 
 /// Why an answer wasn't said whole.
@@ -89,7 +87,9 @@ impl<T: Tree> Session<T> {
                 self.time = time;
                 unless_failed(self.speech.say(host, Answer::Done))
             }
-            ScriptCommand::List(path) => unless_failed(self.list(host, &path)),
+            ScriptCommand::List(path) => {
+                unless_failed(say_list(host, &self.tree, &path, &mut self.speech))
+            }
             ScriptCommand::Dirs
             | ScriptCommand::Roll
             | ScriptCommand::Checkpoint
@@ -115,19 +115,6 @@ impl<T: Tree> Session<T> {
             }
             Err(OpRefusal::Memory) => Err(NoMemory),
             Err(refusal) => Ok(Answer::Refused(refusal)),
-        }
-    }
-
-    fn list<H: Host>(&mut self, host: &mut H, path: &Path) -> Result<(), Failed>
-        ensures says { Says H.told (H.state host.old) (H.state host.new)
-            (list_text (T.meaning self.old.tree).nodes path.now) result }
-        ensures tree { self.new.tree ≡ self.old.tree }
-        ensures time { self.new.time ≡ self.old.time }
-    {
-        match self.tree.find(path) {
-            Walk::Found(top) => say_listing(host, &self.tree, top, &mut self.speech),
-            Walk::Missing => self.speech.say(host, Answer::Refused(OpRefusal::NotFound)),
-            Walk::ThroughFile => self.speech.say(host, Answer::Refused(OpRefusal::NotDir)),
         }
     }
 }

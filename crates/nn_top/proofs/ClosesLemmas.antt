@@ -9,7 +9,7 @@ use Rattle.nn_host.proofs.RunsLemmas.{out_whole_refl, out_whole_trans, out_spoke
 use Rattle.nn_server.specs.declared.status.Status.{Status}
 use Rattle.nn_server.specs.declared.status.Status.TheVariants as outcome
 use Rattle.nn_server.specs.Came.{is_out_fault, Speaks, TouchesNoDir}
-use Rattle.nn_server.proofs.CameLemmas.{records_nothing, records_as, spoke_records, cut_records}
+use Rattle.nn_say.proofs.RecordsLemmas.{records_nothing, records_as, spoke_records, cut_records}
 use Rattle.nn_top.specs.Lines.{last_line}
 use Rattle.nn_top.specs.Closes.{IsLast, last_call, Closes, Closing}
 

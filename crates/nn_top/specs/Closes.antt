@@ -6,7 +6,8 @@ use Rattle.nn_host.specs.Calls.{next_count}
 use Rattle.nn_host.specs.Runs.{OutWhole, SilentAfter}
 use Rattle.nn_server.specs.declared.status.Status.{Status}
 use Rattle.nn_server.specs.declared.status.Status.TheVariants.{Ok, Refused, HostFault, Memory, OutFault}
-use Rattle.nn_server.specs.Came.{is_out_fault, Records, TouchesNoDir}
+use Rattle.nn_say.specs.Records.{Records}
+use Rattle.nn_server.specs.Came.{is_out_fault, TouchesNoDir}
 use Rattle.nn_top.specs.Lines.{last_line}
 
 -- the last line of this status has to be made, which takes memory

@@ -13,7 +13,7 @@ use Rattle.nn_script.specs.declared.syntax.Syntax.TheVariants as syntax
 use Rattle.nn_script.specs.Reading.{reading_of}
 use Rattle.nn_script.specs.Spelling.{answer_text, max_answer}
 use Rattle.nn_script.specs.Answers.{State, change_text, reply_by}
-use Rattle.nn_server.proofs.SayingLemmas.{pieces_one, pieces_none, pieces_within, concat_pieces, cut_front}
+use Rattle.nn_say.proofs.SayingLemmas.{pieces_one, pieces_none, pieces_within, concat_pieces, cut_front}
 use Rattle.nn_server.proofs.DryLemmas.{concat_to}
 use Rattle.nn_server.proofs.laws.answers_go_out_in_pieces.Goals as goal
 

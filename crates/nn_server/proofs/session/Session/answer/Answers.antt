@@ -2,7 +2,7 @@ use Rattle.std.proofs.Common.{◌≡◌, None, Ok, sym, ap, ◌∙◌}
 use Rattle.nn_script.specs.Reading.{reading_of}
 use Rattle.nn_script.specs.Answers.{reply_by}
 use Rattle.nn_server.specs.Scene.{scene}
-use Rattle.nn_server.proofs.SayingLemmas.{says_none}
+use Rattle.nn_say.proofs.SayingLemmas.{says_none}
 use Rattle.nn_server.proofs.session.Session.answer.Goals as goal
 
 pub returns-in-Ok-None : goal.returns-in-Ok-None

@@ -1,0 +1,9 @@
+pub mod WindowLemmas
+pub mod StopLemmas
+pub mod LineLemmas
+pub mod StepLemmas
+pub mod LoopLemmas
+pub mod OpeningLemmas
+pub mod BetweenLemmas
+pub mod FlightLemmas
+pub mod SyncLemmas

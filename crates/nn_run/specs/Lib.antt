@@ -1,0 +1,6 @@
+pub mod Running
+pub mod Window
+pub mod Course
+pub mod Steps
+pub mod Flights
+pub mod Loop
