@@ -1,7 +1,7 @@
 -- Texts in pieces, and runs that say them.
 use Rattle.std.proofs.Common.{◌≡◌, inl, inr, ⊎_elim, ℕ, zero, suc, ◌+◌, ◌-◌, ◌*◌, ◌/◌, ◌<◌, ◌≤◌, true, false, ◌==◌, List, [], ◌∷◌, ◌++◌, length, take, drop, Result, Ok, Err, length-append, length-drop, append_assoc, sym, ap, ◌∙◌, refl, subst, arith}
-use Rattle.std.specs.Prelude.{IsErr}
-use Rattle.std.specs.List.{All, concat}
+use Rattle.std.specs.Prelude.{IsErr, codes}
+use Rattle.std.specs.List.{All, concat, join_with_byte}
 use Rattle.std.proofs.Math.Seq.{take-append-add}
 use Rattle.std.proofs.lemmas.Bool.{eqb-true, cases_lt}
 use Rattle.std.proofs.lemmas.List.{append-nil, map-append, take-append-drop, take-append-le, take_all, take_at, drop_at, length-take}
@@ -12,8 +12,9 @@ use Rattle.nn_host.specs.Moments.{State, Dir, Say}
 use Rattle.nn_host.specs.Calls.{Spoke, next_count, most_said}
 use Rattle.nn_host.specs.Runs.{AllAnswered, Throughout}
 use Rattle.nn_host.specs.declared.host.Failed.{Failed}
-use Rattle.nn_host.proofs.RunsLemmas.{throughout_refl, throughout_trans, throughout_weaker, said_front, untouched_trans, untouched_spoke, silent_after, silent_spoke, spoke_front, all_answered_refl, all_answered_trans, all_answered_spoke}
-use Rattle.nn_say.specs.Records.{Records}
+use Rattle.nn_host.proofs.RunsLemmas.{throughout_refl, throughout_trans, throughout_weaker, said_front, untouched_trans, untouched_spoke, silent_after, silent_spoke, all_answered_refl, all_answered_trans, all_answered_spoke}
+use Rattle.nn_script.specs.declared.answer.Answer.{Answer}
+use Rattle.nn_script.specs.Spelling.{answer_text, answer_words}
 use Rattle.nn_say.specs.Saying.{first_pieces, pieces_of, SaysFronts, OutFailed, CutOff, SaysAll, BreaksOff, Says, Streams, Puts}
 use Rattle.nn_say.proofs.RecordsLemmas.{records_nothing, records_none, records_then, records_as, records_call, spoke_records}
 
@@ -107,15 +108,15 @@ fronts_more {a = a} p more fronts = throughout_weaker fronts (λ tells m is.
     (longer.0, is.1 ∙ ap (λ x. a.now.said ++ x) (longer.1 ∙ ap (take longer.0) (sym (concat-append p more)))))
 
 -- behind a whole text
-fronts_behind : {told : Type 0} {a b c : State} (p q : List Bytes) → (told → b.now.said ≡ a.now.said ++ concat p) → SaysFronts told b c (concat q) → Throughout told b c (λ m. (n : ℕ) × (m.said ≡ a.now.said ++ take n (concat (p ++ q))))
-fronts_behind {a = a} p q said fronts = throughout_weaker fronts (λ tells m is. (
-    length (concat p) + is.0,
-    is.1 ∙ ap (λ x. x ++ take is.0 (concat q)) (said tells) ∙ append_assoc a.now.said (concat p) (take is.0 (concat q))
-    ∙ ap (λ x. a.now.said ++ x) (sym (take-append-add (concat p) (concat q) is.0) ∙ ap (take (length (concat p) + is.0)) (sym (concat-append p q))),
+fronts_behind : {told : Type 0} (a b c : State) (p q : List Bytes) → (told → b.now.said ≡ a.now.said ++ concat p) → SaysFronts told b c (concat q) → Throughout told b c (λ m. (n : ℕ) × (m.said ≡ a.now.said ++ take n (concat (p ++ q))))
+fronts_behind a b c p q said fronts = throughout_weaker fronts (λ tells m is. (
+  length (concat p) + is.0,
+  is.1 ∙ ap (λ x. x ++ take is.0 (concat q)) (said tells) ∙ append_assoc a.now.said (concat p) (take is.0 (concat q))
+      ∙ ap (λ x. a.now.said ++ x) (sym (take-append-add (concat p) (concat q) is.0) ∙ ap (take (length (concat p) + is.0)) (sym (concat-append p q))),
 ))
 
-fronts_then : {told : Type 0} {a b c : State} {p q : List Bytes} → SaysFronts told a b (concat p) → (told → b.now.said ≡ a.now.said ++ concat p) → SaysFronts told b c (concat q) → SaysFronts told a c (concat (p ++ q))
-fronts_then {p = p} {q = q} first said second = throughout_trans (fronts_more p q first) (fronts_behind p q said second)
+fronts_then : {told : Type 0} {a b c : State} (p q : List Bytes) → SaysFronts told a b (concat p) → (told → b.now.said ≡ a.now.said ++ concat p) → SaysFronts told b c (concat q) → SaysFronts told a c (concat (p ++ q))
+fronts_then {a = a} {b = b} {c = c} p q first said second = throughout_trans (fronts_more p q first) (fronts_behind a b c p q said second)
 
 fronts_once : {T E told : Type 0} {bytes : Bytes} {old new : State} {result : Result T E} → Spoke told bytes old new result → SaysFronts told old new (concat (bytes ∷ []))
 fronts_once {bytes = bytes} {old = old} spoke = throughout_weaker (said_front spoke) (λ tells m is. (is.0, is.1 ∙ ap (λ x. old.now.said ++ take is.0 x) (sym (append-nil bytes))))
@@ -127,7 +128,7 @@ says_nothing {a = a} = record { fronts = says_none_of []; answered = all_answere
 
 pub says_then : {told : Type 0} {a b c : State} {p q : List Bytes} → SaysAll told a b p → SaysAll told b c q → SaysAll told a c (p ++ q)
 says_then {a = a} {p = p} {q = q} first second = record {
-  fronts = fronts_then {p = p} {q = q} first.fronts first.said second.fronts;
+  fronts = fronts_then p q first.fronts first.said second.fronts;
   answered = all_answered_trans first.answered second.answered;
   said = λ tells. second.said tells ∙ ap (λ x. x ++ concat q) (first.said tells) ∙ append_assoc a.now.said (concat p) (concat q) ∙ ap (λ x. a.now.said ++ x) (sym (concat-append p q));
   calls = λ tells. records_as (records_then (first.calls tells) (second.calls tells)) (sym (map-append Say p q));
@@ -190,7 +191,7 @@ breaks_once {bytes = bytes} {old = old} spoke = record {
 
 pub breaks_after : {told : Type 0} {a b c : State} {p q : List Bytes} → SaysAll told a b p → BreaksOff told b c q → BreaksOff told a c (p ++ q)
 breaks_after {a = a} {p = p} {q = q} first second = record {
-  fronts = fronts_then {p = p} {q = q} first.fronts first.said second.fronts;
+  fronts = fronts_then p q first.fronts first.said second.fronts;
   failed = out_failed_after first.answered second.failed;
   cut = λ tells. let cut = second.cut tells in (
     concat p ++ cut.0,
@@ -208,6 +209,10 @@ breaks_more {p = p} more broken = record { fronts = fronts_more p more broken.fr
 pub says_text : {told : Type 0} {old new : State} (text : Bytes) (result : Result (Unit {0}) Failed) → 0 < length text → length text ≤ most_said → Spoke told text old new result → Says told old new text result
 says_text {told} {old} {new} text (Ok v) some fits spoke = subst (λ (pieces : List Bytes). SaysAll told old new pieces) (sym (pieces_one text some fits)) (says_once spoke)
 says_text {told} {old} {new} text (Err e) some fits spoke = subst (λ (pieces : List Bytes). BreaksOff told old new pieces) (sym (pieces_one text some fits)) (breaks_once spoke)
+
+-- no answer is empty
+pub some_answer : (answer : Answer) → 0 < length (answer_text answer)
+some_answer answer = omega (arith, length-append (join_with_byte 32 (answer_words answer)) (codes "\n"))
 
 -- an empty text
 pub says_none : {told : Type 0} {a : State} (text : Bytes) → text ≡ [] → SaysAll told a a (pieces_of text)

@@ -1,5 +1,5 @@
 // The answers that are more than a line.
-ghost use Rattle.std.specs.Prelude.{◌≡◌, ◌≤◌, ◌+◌, ◌*◌, ◌++◌, vec_len, vec_capacity};
+ghost use Rattle.std.specs.Prelude.{◌≡◌, ◌≤◌, ◌+◌, ◌*◌, ◌++◌, length, vec_len, vec_capacity};
 ghost use Rattle.nn_base.specs.DirSets.{has};
 ghost use Rattle.nn_script.specs.declared.answer.Answer.TheVariants.{Done};
 ghost use Rattle.nn_script.specs.Answers.{list_text};
@@ -54,7 +54,7 @@ fn put_dirs(live: DirSet, count: u8, out: &mut Vec<u8>)
     requires few { count ≤ 8 }
     requires room { vec_len out.old + max_dir_line * count ≤ vec_capacity out.old }
     ensures text { out.new.items ≡ out.old.items ++ dir_lines (has live) count }
-    ensures size { vec_len out.new ≤ vec_len out.old + max_dir_line * count }
+    ensures short { length (dir_lines (has live) count) ≤ max_dir_line * count }
     ensures room { vec_capacity out.old ≤ vec_capacity out.new }
 {
     for i in 0..count {

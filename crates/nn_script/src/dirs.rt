@@ -14,6 +14,7 @@ pub fn dir_line(dir: DirNo, live: bool, out: &mut Vec<u8>)
     requires room { vec_len out.old + max_dir_line ≤ vec_capacity out.old }
     ensures text { out.new.items ≡ out.old.items ++ dir_line dir.0 live }
     ensures short { length (dir_line dir.0 live) ≤ max_dir_line }
+    ensures size { vec_len out.new ≤ vec_len out.old + max_dir_line }
     ensures room { vec_capacity out.old ≤ vec_capacity out.new }
 {
     put(b"dir", out);
