@@ -22,7 +22,7 @@ use Rattle.nn_run.proofs.WindowLemmas.{nil_of, window_behind, entry_in_window, s
 -- fewer directories count
 pub fewer_kept : (shared : Shared) (count : ℕ) (run held fewer less : ℕ → Dir → Bool) (m : Moment) → AllKept shared count run held m
     → ((i : ℕ) → i < count → fewer i (m.dirs i) ≡ true → run i (m.dirs i) ≡ true) → ((i : ℕ) → i < count → less i (m.dirs i) ≡ true → held i (m.dirs i) ≡ true) → AllKept shared count fewer less m
-fewer_kept shared count run held fewer less m all some one = record { at = λ i below. record { kept = (all.at i below).kept; run = λ e. (all.at i below).run (some i below e); held = λ e. (all.at i below).held (one i below e) } }
+fewer_kept shared count run held fewer less m all some one = record { at = λ i below. record { kept = (all.at i below).kept; run = λ e. (all.at i below).run (some i below e); led = λ e. (all.at i below).led (one i below e) } }
 
 -- a line without an answer has none
 read_none : (line : Bytes) → has_no_answer line ≡ true → reading_of line ≡ Ok None

@@ -99,7 +99,7 @@ module _ (version : Version) (list : ℕ → Namespace) (count : ℕ) (live : �
             let fits : is_of_step live_start start i (m.dirs i) ≡ true → live i ≡ true = λ e. (
             let parts = and_parts (live_start i) _ e in
             alive i below parts.0 (subst (λ (dirs : ℕ → Dir). is_unfailed start i (dirs i) ≡ true) same parts.1)) in
-            record { kept = one.kept; run = λ e. one.run (fits e); held = λ e. one.held (fits e) });
+            record { kept = one.kept; run = λ e. one.run (fits e); led = λ e. one.led (fits e) });
       }
 
 pub saying_is_kept : SayingIsKept

@@ -8,6 +8,7 @@ use Rattle.nn_marks.specs.declared.version.Version.{Version}
 use Rattle.nn_tree.specs.Namespace.{Namespace}
 use Rattle.nn_state.specs.declared.state.StorageState.TheVariants.{Normal}
 use Rattle.nn_state.specs.Typed.{IsIn}
+use Rattle.nn_pick.specs.Refusing.{spent_from}
 use Rattle.nn_pick.specs.Opening.{Book}
 use Rattle.nn_kept.specs.Ends.{EndsBetween}
 use Rattle.nn_script.specs.Lines.{has_no_answer}
@@ -41,7 +42,7 @@ pub record LeadsTo (list : ℕ → Namespace) (book after : Book) (last new_last
   pub unsaved_after : after.saved ≡ None
   pub between : (n : ℕ) → last ≤ n → n ≤ new_last → (list n ≡ book.ns) ⊎ (list n ≡ after.ns)
   pub ends : list new_last ≡ after.ns
-  pub room : new_last < 2 ^ 62
+  pub room : new_last < spent_from
 
 -- nothing but a front of this text was said, and no directory was touched
 abbrev pub OnlySays : Type 0 → Bytes → State → State → Type 0

@@ -7,6 +7,7 @@ use Rattle.nn_marks.specs.declared.version.Version.{Version}
 use Rattle.nn_tree.specs.Namespace.{Namespace}
 use Rattle.nn_state.specs.declared.state.StorageState.TheVariants.{Normal}
 use Rattle.nn_state.specs.Typed.{IsIn}
+use Rattle.nn_pick.specs.Refusing.{spent_from}
 use Rattle.nn_pick.specs.Opening.{Book}
 use Rattle.nn_kept.specs.Kept.{Shared, IsOurs}
 use Rattle.nn_kept.specs.Laws.{EachLeft, IsOutranked, IsKeptDisk, AllKept, KeptInto}
@@ -43,7 +44,7 @@ pub record BetweenLines (version : Version) (list : ℕ → Namespace) (count : 
   pub ours : IsOurs shared version
   pub ns : shared.ns version.ctime ≡ list
   pub saved : shared.saved version.ctime ≡ book.saved
-  pub room : last < 2 ^ 62
+  pub room : last < spent_from
   pub stands : list last ≡ book.ns
   pub lives : (i : ℕ) → i < count → live i ≡ true → Lives version (holders i) book list last (m.dirs i).disk
   pub others : (i : ℕ) → i < count → live i ≡ false → LeftBehind shared (m.dirs i).disk
