@@ -12,7 +12,8 @@ use Rattle.nn_host.specs.Moments.{State, Dir, Say}
 use Rattle.nn_host.specs.Calls.{Spoke, next_count, most_said}
 use Rattle.nn_host.specs.Runs.{AllAnswered, Throughout}
 use Rattle.nn_host.specs.declared.host.Failed.{Failed}
-use Rattle.nn_host.proofs.RunsLemmas.{throughout_refl, throughout_trans, throughout_weaker, said_front, untouched_trans, untouched_spoke, silent_after, silent_spoke, all_answered_refl, all_answered_trans, all_answered_spoke}
+use Rattle.nn_host.proofs.WorkLemmas.{throughout_said}
+use Rattle.nn_host.proofs.RunsLemmas.{throughout_refl, throughout_trans, throughout_both, throughout_weaker, said_front, untouched_trans, untouched_spoke, silent_after, silent_spoke, all_answered_refl, all_answered_trans, all_answered_spoke}
 use Rattle.nn_script.specs.declared.answer.Answer.{Answer}
 use Rattle.nn_script.specs.Spelling.{answer_text, answer_words}
 use Rattle.nn_say.specs.Saying.{first_pieces, pieces_of, SaysFronts, OutFailed, CutOff, SaysAll, BreaksOff, Says, Streams, Puts}
@@ -93,7 +94,7 @@ out_failed_after p q = record {
 -- ---- fronts of a text, at each moment
 
 says_none_of : {told : Type 0} {a : State} (text : Bytes) → SaysFronts told a a text
-says_none_of {a = a} text = throughout_refl (λ tells. (0, sym (append-nil a.now.said)))
+says_none_of {a = a} text = throughout_refl (λ tells. (refl, 0, sym (append-nil a.now.said)))
 
 -- a front of a text is one of a longer text
 front_longer : (n : ℕ) (text more : Bytes) → (k : ℕ) × (take n text ≡ take k (text ++ more))
@@ -104,22 +105,24 @@ front_longer n text more = elim (cases_lt (length text) n) [
 
 fronts_more : {told : Type 0} {a b : State} (p more : List Bytes) → SaysFronts told a b (concat p) → SaysFronts told a b (concat (p ++ more))
 fronts_more {a = a} p more fronts = throughout_weaker fronts (λ tells m is.
-    let longer = front_longer is.0 (concat p) (concat more) in
-    (longer.0, is.1 ∙ ap (λ x. a.now.said ++ x) (longer.1 ∙ ap (take longer.0) (sym (concat-append p more)))))
+    let longer = front_longer is.1 (concat p) (concat more) in
+    (is.0, longer.0, is.2 ∙ ap (λ x. a.now.said ++ x) (longer.1 ∙ ap (take longer.0) (sym (concat-append p more)))))
 
 -- behind a whole text
-fronts_behind : {told : Type 0} (a b c : State) (p q : List Bytes) → (told → b.now.said ≡ a.now.said ++ concat p) → SaysFronts told b c (concat q) → Throughout told b c (λ m. (n : ℕ) × (m.said ≡ a.now.said ++ take n (concat (p ++ q))))
-fronts_behind a b c p q said fronts = throughout_weaker fronts (λ tells m is. (
-  length (concat p) + is.0,
-  is.1 ∙ ap (λ x. x ++ take is.0 (concat q)) (said tells) ∙ append_assoc a.now.said (concat p) (take is.0 (concat q))
-      ∙ ap (λ x. a.now.said ++ x) (sym (take-append-add (concat p) (concat q) is.0) ∙ ap (take (length (concat p) + is.0)) (sym (concat-append p q))),
+fronts_behind : {told : Type 0} (a b c : State) (p q : List Bytes) → (told → b.now.dirs ≡ a.now.dirs) → (told → b.now.said ≡ a.now.said ++ concat p) → SaysFronts told b c (concat q)
+    → Throughout told b c (λ m. (m.dirs ≡ a.now.dirs) × (n : ℕ) × (m.said ≡ a.now.said ++ take n (concat (p ++ q))))
+fronts_behind a b c p q same said fronts = throughout_weaker fronts (λ tells m is. (
+    is.0 ∙ same tells,
+    length (concat p) + is.1,
+    is.2 ∙ ap (λ x. x ++ take is.1 (concat q)) (said tells) ∙ append_assoc a.now.said (concat p) (take is.1 (concat q))
+    ∙ ap (λ x. a.now.said ++ x) (sym (take-append-add (concat p) (concat q) is.1) ∙ ap (take (length (concat p) + is.1)) (sym (concat-append p q))),
 ))
 
 fronts_then : {told : Type 0} {a b c : State} (p q : List Bytes) → SaysFronts told a b (concat p) → (told → b.now.said ≡ a.now.said ++ concat p) → SaysFronts told b c (concat q) → SaysFronts told a c (concat (p ++ q))
-fronts_then {a = a} {b = b} {c = c} p q first said second = throughout_trans (fronts_more p q first) (fronts_behind a b c p q said second)
+fronts_then {a = a} {b = b} {c = c} p q first said second = throughout_trans (fronts_more p q first) (fronts_behind a b c p q (λ tells. (first.ends tells).0) said second)
 
 fronts_once : {T E told : Type 0} {bytes : Bytes} {old new : State} {result : Result T E} → Spoke told bytes old new result → SaysFronts told old new (concat (bytes ∷ []))
-fronts_once {bytes = bytes} {old = old} spoke = throughout_weaker (said_front spoke) (λ tells m is. (is.0, is.1 ∙ ap (λ x. old.now.said ++ take is.0 x) (sym (append-nil bytes))))
+fronts_once {bytes = bytes} {old = old} spoke = throughout_weaker (throughout_both (throughout_said spoke) (said_front spoke)) (λ tells m is. (is.0, is.1.0, is.1.1 ∙ ap (λ x. old.now.said ++ take is.1.0 x) (sym (append-nil bytes))))
 
 -- ---- pieces that are said
 

@@ -17,9 +17,9 @@ first_pieces (suc k) text = take most_said text ∷ first_pieces k (drop most_sa
 unfoldable pub pieces_of : Bytes → List Bytes
 pieces_of text = first_pieces ((length text + (most_said - 1)) / most_said) text
 
--- at each moment from old to new a front of this text was said
+-- at each moment from old to new no directory was touched, and a front of this text was said
 abbrev pub SaysFronts : Type 0 → State → State → Bytes → Type 0
-SaysFronts told old new text = Throughout told old new (λ (m : Moment). (n : ℕ) × (m.said ≡ old.now.said ++ take n text))
+SaysFronts told old new text = Throughout told old new (λ (m : Moment). (m.dirs ≡ old.now.dirs) × (n : ℕ) × (m.said ≡ old.now.said ++ take n text))
 
 -- from old to new these pieces were said, each in one call, and no call failed
 pub record SaysAll (told : Type 0) (old new : State) (pieces : List Bytes) : Type 0 where

@@ -1,7 +1,7 @@
 -- What every command says of its run, whatever it does: what it said, how the output fared, and that its own record holds.
-use Rattle.std.specs.Prelude.{◌≡◌, ℕ, Bool, true, false, List, ◌++◌, map, Option, Some, None, if◌then◌else◌}
+use Rattle.std.specs.Prelude.{◌≡◌, ℕ, Bool, true, false, List, ◌++◌, Option, Some, None, if◌then◌else◌}
 use Rattle.nn_base.specs.Paths.{Bytes}
-use Rattle.nn_host.specs.Moments.{Entry, Event, State, faults_at}
+use Rattle.nn_host.specs.Moments.{Entry, State, faults_at}
 use Rattle.nn_host.specs.Calls.{next_count}
 use Rattle.nn_host.specs.Runs.{Untouched, OutWhole, SilentAfter, SameCounts, RoseAt}
 use Rattle.nn_server.specs.declared.status.Status.{Status}

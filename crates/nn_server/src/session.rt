@@ -2,6 +2,7 @@
 ghost use Rattle.std.specs.Prelude.{◌≡◌, ◌<◌, ◌^◌, IfOk, OnOk};
 ghost use Rattle.nn_ops.specs.Commands.{IsCommand};
 ghost use Rattle.nn_ops.specs.Step.{step};
+ghost use Rattle.nn_script.specs.declared.answer.Answer.TheVariants.{Dry};
 ghost use Rattle.nn_script.specs.Reading.{IsInRange};
 ghost use Rattle.nn_script.specs.Spelling.{IsSaid, answer_text};
 ghost use Rattle.nn_script.specs.Answers.{answer_of, reply_to, change_reply};
@@ -90,12 +91,21 @@ impl<T: Tree> Session<T> {
             ScriptCommand::List(path) => {
                 unless_failed(say_list(host, &self.tree, &path, &mut self.speech))
             }
-            ScriptCommand::Dirs
-            | ScriptCommand::Roll
-            | ScriptCommand::Checkpoint
-            | ScriptCommand::Finalize
-            | ScriptCommand::Restore(_) => unless_failed(self.speech.say(host, Answer::Dry)),
+            ScriptCommand::Dirs => self.refuse(host),
+            ScriptCommand::Roll => self.refuse(host),
+            ScriptCommand::Checkpoint => self.refuse(host),
+            ScriptCommand::Finalize => self.refuse(host),
+            ScriptCommand::Restore(_) => self.refuse(host),
         }
+    }
+
+    // Answers a line that asks for what only directories have.
+    fn refuse<H: Host>(&mut self, host: &mut H) -> Result<(), Unsaid>
+        ensures answered { Answered H.told (H.state host.old) (H.state host.new)
+            (record { text = answer_text Dry; after = scene (T.meaning self.old.tree) self.old.time })
+            (scene (T.meaning self.new.tree) self.new.time) result }
+    {
+        unless_failed(self.speech.say(host, Answer::Dry))
     }
 
     // Does a change, or tells why it is refused.
