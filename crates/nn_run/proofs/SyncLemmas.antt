@@ -24,10 +24,10 @@ use Rattle.nn_run.proofs.LineLemmas.{read_some}
 use Rattle.nn_run.proofs.FlightLemmas.{in_flight, each_kept, after_flight}
 
 -- a directory that isn't live doesn't count
-not_live : (live : ℕ → Bool) (old : State) (i : ℕ) (d : Dir) → live i ≡ false → is_of_step live old i d ≡ false
+pub not_live : (live : ℕ → Bool) (old : State) (i : ℕ) (d : Dir) → live i ≡ false → is_of_step live old i d ≡ false
 not_live live old i d e = ap (λ b. b && is_unfailed old i d) e
 
-not_held : (live : ℕ → Bool) (old : State) (i : ℕ) (d : Dir) → live i ≡ false → (true && is_of_step live old i d) ≡ false
+pub not_held : (live : ℕ → Bool) (old : State) (i : ℕ) (d : Dir) → live i ≡ false → (true && is_of_step live old i d) ≡ false
 not_held live old i d e = not_live live old i d e
 
 module _ (count : ℕ) (run : Running) (asked : Asked) (answers : has_no_answer asked.line ≡ false) where
@@ -59,11 +59,11 @@ module _ (count : ℕ) (run : Running) (asked : Asked) (answers : has_no_answer 
   pub both_part : (old : State) (m : Moment) → m.said ≡ old.now.said → text ≢ [] → IsPartOf (run.book ∷ after ∷ []) (window_at 1 run.book (commands_of count run (asked ∷ [])) old m)
   both_part old m e some b there = subst (λ w. Contains w b) (sym (window_here old m 0 (e ∙ sym (append-nil old.now.said)))) (both_in_window run.book it some b there)
 
-  has_text : text ≢ []
+  pub has_text : text ≢ []
   has_text = read_some count run asked.sight asked.line answers
 
 -- the disks between two lines are those of another moment with the same directories
-between_same : {version : Version} {list : ℕ → Namespace} {count : ℕ} {live holders : ℕ → Bool} {book : Book} {last : ℕ} (m k : Moment) → k.dirs ≡ m.dirs → BetweenLines version list count live holders book last m → BetweenLines version list count live holders book last k
+pub between_same : {version : Version} {list : ℕ → Namespace} {count : ℕ} {live holders : ℕ → Bool} {book : Book} {last : ℕ} (m k : Moment) → k.dirs ≡ m.dirs → BetweenLines version list count live holders book last m → BetweenLines version list count live holders book last k
 between_same {version} {list} {count} {live} {holders} {book} {last} m k same between = record {
   shared = between.shared;
   window = between.window;
