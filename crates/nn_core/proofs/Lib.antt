@@ -1,0 +1,3 @@
+pub mod FlownLemmas
+pub mod StandLemmas
+pub mod StepLemmas

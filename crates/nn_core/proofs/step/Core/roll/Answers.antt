@@ -1,0 +1,20 @@
+use Rattle.std.proofs.Common.{Some, Ok, refl}
+use Rattle.nn_script.specs.declared.answer.Answer.TheVariants.{Done}
+use Rattle.nn_script.specs.declared.command.ScriptCommand.TheVariants.{Roll}
+use Rattle.nn_script.specs.Spelling.{answer_text}
+use Rattle.nn_core.proofs.StepLemmas.{synced_step, none_left_step, stepped_as, ready_as}
+use Rattle.nn_core.proofs.step.Core.roll.Goals as goal
+
+pub returns-in-Ok-clause-stepped : goal.returns-in-Ok-clause-stepped
+returns-in-Ok-clause-stepped g c =
+    let core = c.args.self.now in
+    let ns = g.T.Tree.meaning core.tree in
+    stepped_as c.unless_failed.ensures (synced_step (Ok (Some Roll)) core.journal c.roll_segment.new.journal core.count ns ns core.time (g.H.Host.state c.args.host.now) (g.H.Host.state c.roll_segment.new.host) (g.H.Host.state c.say.new.host) (answer_text Done) c.say.result
+    (λ e. cc) (λ sight. refl) c.requires.ready.listed (λ tells ids stands. c.in-Ok.ensures.rolls tells ns ids stands) c.in-Ok.ensures.went (ready_as c.requires.ready.listed c.in-Ok.ensures.ready) c.in-Ok.ensures.last c.say.ensures)
+
+pub returns-in-Err-clause-stepped : goal.returns-in-Err-clause-stepped
+returns-in-Err-clause-stepped g c =
+    let core = c.args.self.now in
+    let ns = g.T.Tree.meaning core.tree in
+    none_left_step (Ok (Some Roll)) core.journal c.roll_segment.new.journal core.count ns ns ns core.time (g.H.Host.state c.args.host.now) (g.H.Host.state c.roll_segment.new.host) (answer_text Done)
+    (λ e. cc) (λ sight. refl) c.requires.ready.listed (λ tells ids stands. c.in-Err.ensures.rolls tells ns ids stands) c.in-Err.ensures.went (ready_as c.requires.ready.listed c.in-Err.ensures.ready) c.in-Err.ensures.last c.in-Err.ensures.left

@@ -1,0 +1,201 @@
+// One event after another.
+ghost use Rattle.std.specs.Prelude.{◌≡◌, ◌≢◌, ◌+◌, ◌<◌, ◌≤◌, ◌^◌, IfOk, OnOk, None, Some, Ok, ℕ};
+ghost use Rattle.nn_base.specs.DirSets.{has};
+ghost use Rattle.nn_ops.specs.Bodies.{op_of};
+ghost use Rattle.nn_ops.specs.Commands.{IsCommand};
+ghost use Rattle.nn_ops.specs.Plans.{IsReady as IsPlanned};
+ghost use Rattle.nn_ops.specs.Step.{refusal_of};
+ghost use Rattle.nn_ops.specs.declared.refusal.OpRefusal.TheVariants.{Memory};
+ghost use Rattle.nn_script.specs.declared.answer.Answer.TheVariants.{Refused};
+ghost use Rattle.nn_script.specs.Spelling.{IsSaid};
+ghost use Rattle.nn_script.specs.declared.command.ScriptCommand.TheVariants.{Namespace as ChangeLine, Roll as RollLine};
+ghost use Rattle.nn_script.specs.Reading.{IsInRange};
+ghost use Rattle.nn_core.specs.Ready.{IsReady};
+ghost use Rattle.nn_core.specs.Events.{IsEvent, read_as, unless_failed, HasStepped};
+
+use crate::event::{End, Event};
+use crate::record::{roll_segment, write_record};
+use nn_base::{DirNo, DirSet, NoMemory};
+use nn_host::{Failed, Host};
+use nn_journal::{JournalSet, NoneLeft};
+use nn_ops::{Command, OpRefusal, Plan, apply, prepare};
+use nn_say::{Speech, say_dirs, say_list};
+use nn_script::{Answer, ScriptCommand};
+use nn_tree::Tree;
+use std::alloc::Global;
+
+/// A run between two events: its namespace and its time, and the journal over its live directories.
+#[derive(Drop)]
+pub struct Core<T: Tree> {
+    /// The namespace after all commands so far.
+    pub(crate) tree: T,
+    /// What time it is there, in milliseconds.
+    pub(crate) time: u64,
+    /// The journal over all live directories.
+    pub(crate) journal: JournalSet,
+    /// How many directories are listed.
+    pub(crate) count: u8,
+    pub(crate) speech: Speech,
+    ghost early: { time < 2 ^ 63 },
+    ghost few: { count ≤ 8 },
+}
+
+impl<T: Tree> Core<T> {
+    /// A run of this namespace that begins at this time, in milliseconds, over so many directories. It takes all the memory
+    /// that answering needs.
+    pub fn new(
+        alloc: Global,
+        tree: T,
+        journal: JournalSet,
+        time: u64,
+        count: u8,
+    ) -> Result<Core<T>, NoMemory>
+        requires early { time < 2 ^ 63 }
+        requires few { count ≤ 8 }
+        ensures { IfOk result (λ core. (core.tree ≡ tree) × (core.time ≡ time) × (core.journal ≡ journal) × (core.count ≡ count)) }
+    {
+        Ok(Core {
+            tree,
+            time,
+            journal,
+            count,
+            speech: Speech::new(alloc)?,
+        })
+    }
+
+    /// Whether this directory is live: whether no call on it has failed since the run began.
+    pub fn live(&self, i: DirNo) -> bool
+        ensures { result ≡ has self.now.journal.live i.0 }
+    {
+        self.journal.live(i)
+    }
+
+    /// Answers an event. The record of a command is synced in each live directory before its answer is said; a directory in
+    /// which a call fails is dropped, and the others roll, so that it ranks below them. An answer goes out in one call of the
+    /// output, a longer listing in several.
+    pub fn step<H: Host>(&mut self, alloc: Global, host: &mut H, event: Event) -> Result<(), End>
+        requires ready { IsReady self.old.journal self.old.count (H.state host.old) }
+        requires ids { self.old.journal.last + 128 < 2 ^ 63 }
+        requires event { IsEvent event }
+        ensures stepped { HasStepped H.told (read_as event) self.old.count (T.meaning self.old.tree) (T.meaning self.new.tree) self.old.time self.new.time self.old.journal self.new.journal (H.state host.old) (H.state host.new) result }
+        ensures count { self.new.count ≡ self.old.count }
+    {
+        match event {
+            Event::Line(command) => self.answer(alloc, host, command),
+            Event::Bad(fault) => unless_failed(self.speech.say(host, Answer::Unread(fault))),
+        }
+    }
+
+    fn answer<H: Host>(
+        &mut self,
+        alloc: Global,
+        host: &mut H,
+        command: ScriptCommand,
+    ) -> Result<(), End>
+        requires ready { IsReady self.old.journal self.old.count (H.state host.old) }
+        requires ids { self.old.journal.last + 128 < 2 ^ 63 }
+        requires range { IsInRange command }
+        ensures stepped { HasStepped H.told (Ok (Some command)) self.old.count (T.meaning self.old.tree) (T.meaning self.new.tree) self.old.time self.new.time self.old.journal self.new.journal (H.state host.old) (H.state host.new) result }
+        ensures count { self.new.count ≡ self.old.count }
+    {
+        match command {
+            ScriptCommand::Namespace(change) => self.change(alloc, host, &change),
+            ScriptCommand::Clock(time) => {
+                self.time = time;
+                unless_failed(self.speech.say(host, Answer::Done))
+            }
+            ScriptCommand::List(path) => {
+                unless_failed(say_list(host, &self.tree, &path, &mut self.speech))
+            }
+            ScriptCommand::Dirs => {
+                let live = live_dirs(&self.journal);
+                unless_failed(say_dirs(host, live, self.count, &mut self.speech))
+            }
+            ScriptCommand::Roll => self.roll(host),
+            ScriptCommand::Checkpoint => unless_failed(self.speech.say(host, Answer::Later)),
+            ScriptCommand::Finalize => unless_failed(self.speech.say(host, Answer::Later)),
+            ScriptCommand::Restore(_) => unless_failed(self.speech.say(host, Answer::Later)),
+        }
+    }
+
+    // Does a change, or tells why it is refused.
+    fn change<H: Host>(&mut self, alloc: Global, host: &mut H, command: &Command) -> Result<(), End>
+        requires ready { IsReady self.old.journal self.old.count (H.state host.old) }
+        requires ids { self.old.journal.last + 128 < 2 ^ 63 }
+        requires command { IsCommand command.now }
+        ensures stepped { HasStepped H.told (Ok (Some (ChangeLine command.now))) self.old.count (T.meaning self.old.tree) (T.meaning self.new.tree) self.old.time self.new.time self.old.journal self.new.journal (H.state host.old) (H.state host.new) result }
+        ensures count { self.new.count ≡ self.old.count }
+    {
+        match prepare(alloc, &mut self.tree, command, self.time) {
+            Ok(plan) => self.carry_out(host, plan),
+            Err(refusal) => match spoken(refusal) {
+                Ok(answer) => unless_failed(self.speech.say(host, answer)),
+                Err(NoMemory) => Err(End::Memory),
+            },
+        }
+    }
+
+    // Does what was planned, once its record is synced.
+    fn carry_out<H: Host>(&mut self, host: &mut H, plan: Plan) -> Result<(), End>
+        requires ready { IsReady self.old.journal self.old.count (H.state host.old) }
+        requires ids { self.old.journal.last + 128 < 2 ^ 63 }
+        requires plan { IsPlanned plan (T.has self.old.tree) (T.place self.old.tree) (T.spare self.old.tree) (T.meaning self.old.tree) }
+        ensures stepped { (command : _) → refusal_of (T.meaning self.old.tree) command ≡ None → plan.op ≡ op_of (T.meaning self.old.tree) command self.old.time →
+            HasStepped H.told (Ok (Some (ChangeLine command))) self.old.count (T.meaning self.old.tree) (T.meaning self.new.tree) self.old.time self.new.time self.old.journal self.new.journal (H.state host.old) (H.state host.new) result }
+        ensures count { self.new.count ≡ self.old.count }
+    {
+        match write_record(&mut self.journal, host, plan.op()) {
+            Ok(()) => {
+                apply(&mut self.tree, plan);
+                unless_failed(self.speech.say(host, Answer::Done))
+            }
+            Err(NoneLeft) => Err(End::NoneLeft),
+        }
+    }
+
+    fn roll<H: Host>(&mut self, host: &mut H) -> Result<(), End>
+        requires ready { IsReady self.old.journal self.old.count (H.state host.old) }
+        requires ids { self.old.journal.last + 128 < 2 ^ 63 }
+        ensures stepped { HasStepped H.told (Ok (Some RollLine)) self.old.count (T.meaning self.old.tree) (T.meaning self.new.tree) self.old.time self.new.time self.old.journal self.new.journal (H.state host.old) (H.state host.new) result }
+        ensures count { self.new.count ≡ self.old.count }
+    {
+        match roll_segment(&mut self.journal, host) {
+            Ok(()) => unless_failed(self.speech.say(host, Answer::Done)),
+            Err(NoneLeft) => Err(End::NoneLeft),
+        }
+    }
+}
+
+fn unless_failed(said: Result<(), Failed>) -> Result<(), End>
+    ensures { result ≡ unless_failed said }
+{
+    match said {
+        Ok(()) => Ok(()),
+        Err(Failed) => Err(End::OutFault),
+    }
+}
+
+// What a command is answered that is refused so: want of memory is never said.
+fn spoken(refusal: OpRefusal) -> Result<Answer, NoMemory>
+    ensures is { IfOk result (λ answer. answer ≡ Refused refusal) }
+    ensures said { IfOk result IsSaid }
+    ensures told { OnOk result (refusal ≢ Memory) }
+{
+    match refusal {
+        OpRefusal::Memory => Err(NoMemory),
+        other => Ok(Answer::Refused(other)),
+    }
+}
+
+// Which directories are live.
+fn live_dirs(journal: &JournalSet) -> DirSet
+    ensures { (j : ℕ) → has result j ≡ has journal.now.live j }
+{
+    let mut live = DirSet::none();
+    for i in 0..8u8 {
+        if journal.live(DirNo(i)) {
+            live = live.with(DirNo(i));
+        }
+    }
+    live
+}
