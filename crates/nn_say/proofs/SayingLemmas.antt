@@ -112,10 +112,10 @@ fronts_more {a = a} p more fronts = throughout_weaker fronts (λ tells m is.
 fronts_behind : {told : Type 0} (a b c : State) (p q : List Bytes) → (told → b.now.dirs ≡ a.now.dirs) → (told → b.now.said ≡ a.now.said ++ concat p) → SaysFronts told b c (concat q)
     → Throughout told b c (λ m. (m.dirs ≡ a.now.dirs) × (n : ℕ) × (m.said ≡ a.now.said ++ take n (concat (p ++ q))))
 fronts_behind a b c p q same said fronts = throughout_weaker fronts (λ tells m is. (
-    is.0 ∙ same tells,
-    length (concat p) + is.1,
-    is.2 ∙ ap (λ x. x ++ take is.1 (concat q)) (said tells) ∙ append_assoc a.now.said (concat p) (take is.1 (concat q))
-    ∙ ap (λ x. a.now.said ++ x) (sym (take-append-add (concat p) (concat q) is.1) ∙ ap (take (length (concat p) + is.1)) (sym (concat-append p q))),
+  is.0 ∙ same tells,
+  length (concat p) + is.1,
+  is.2 ∙ ap (λ x. x ++ take is.1 (concat q)) (said tells) ∙ append_assoc a.now.said (concat p) (take is.1 (concat q))
+      ∙ ap (λ x. a.now.said ++ x) (sym (take-append-add (concat p) (concat q) is.1) ∙ ap (take (length (concat p) + is.1)) (sym (concat-append p q))),
 ))
 
 fronts_then : {told : Type 0} {a b c : State} (p q : List Bytes) → SaysFronts told a b (concat p) → (told → b.now.said ≡ a.now.said ++ concat p) → SaysFronts told b c (concat q) → SaysFronts told a c (concat (p ++ q))
