@@ -277,11 +277,12 @@ fn names_have_255_bytes_and_paths_8000(rt: HostRuntime) -> Result<(), Fail> {
     Ok(())
 }
 
-const ANSWERS: [(Answer, &[u8]); 21] = [
+const ANSWERS: [(Answer, &[u8]); 22] = [
     (Answer::Done, b"ok\n"),
     (Answer::Count(0), b"ok 0\n"),
     (Answer::Count(1_048_576), b"ok 1048576\n"),
     (Answer::Dry, b"refused dry\n"),
+    (Answer::Later, b"refused later\n"),
     (Answer::Refused(OpRefusal::Exists), b"refused exists\n"),
     (Answer::Refused(OpRefusal::NotFound), b"refused not-found\n"),
     (Answer::Refused(OpRefusal::NotDir), b"refused not-dir\n"),
@@ -349,6 +350,7 @@ fn is_said(answer: Answer) -> bool
         Answer::Done => true,
         Answer::Count(_) => true,
         Answer::Dry => true,
+        Answer::Later => true,
     }
 }
 
