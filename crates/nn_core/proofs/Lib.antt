@@ -1,3 +1,4 @@
 pub mod FlownLemmas
 pub mod StandLemmas
+pub mod CallsLemmas
 pub mod StepLemmas

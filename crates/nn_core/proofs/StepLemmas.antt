@@ -1,13 +1,14 @@
 -- What an event came to, by what was synced and what was said.
-use Rattle.std.proofs.Common.{◌≡◌, ◌≢◌, inl, inr, ⊎_elim, ℕ, ◌+◌, ◌*◌, ◌≤◌, true, false, Option, Some, None, Result, Ok, Err, ◌&&◌, List, [], ◌∷◌, ◌++◌, refl, sym, ◌∙◌, ap, subst, arith}
+use Rattle.std.proofs.Common.{◌≡◌, ◌≢◌, inl, inr, ⊎_elim, ℕ, ◌+◌, ◌*◌, ◌<◌, ◌≤◌, length, true, false, Option, Some, None, Result, Ok, Err, ◌&&◌, List, [], ◌∷◌, ◌++◌, refl, sym, ◌∙◌, ap, subst, arith}
 use Rattle.std.specs.Prelude.{Contains}
 use Rattle.std.proofs.lemmas.Bool.{cases_Bool}
 use Rattle.std.proofs.lemmas.List.{append-nil}
 use Rattle.std.proofs.lemmas.List.Elements.{Contains-append_left}
 use Rattle.nn_base.specs.DirSets.{has, count_of}
+use Rattle.nn_base.specs.Limits.{most_record}
 use Rattle.nn_base.specs.Paths.{Bytes}
-use Rattle.nn_host.specs.Moments.{Dir, State, faults_at}
-use Rattle.nn_host.specs.Calls.{next_count}
+use Rattle.nn_host.specs.Moments.{Dir, State, moment, faults_at}
+use Rattle.nn_host.specs.Calls.{next_count, most_said}
 use Rattle.nn_host.specs.Runs.{Unspoken}
 use Rattle.nn_host.specs.declared.host.Failed.{Failed}
 use Rattle.nn_host.proofs.RunsLemmas.{throughout_refl, throughout_told, throughout_weaker}
@@ -15,7 +16,7 @@ use Rattle.nn_tree.specs.Namespace.{Namespace}
 use Rattle.nn_segment_file.specs.Stages.{StandsAt}
 use Rattle.nn_journal.specs.declared.journal.JournalSet.{JournalSet}
 use Rattle.nn_journal.specs.Among.{StaysLive, IsDropped}
-use Rattle.nn_journal.specs.Places.{Went}
+use Rattle.nn_journal.specs.Places.{Went, full_segment}
 use Rattle.nn_pick.specs.Opening.{Book}
 use Rattle.nn_ops.specs.declared.command.Command.{Command}
 use Rattle.nn_ops.specs.declared.refusal.OpRefusal.{OpRefusal}
@@ -25,7 +26,7 @@ use Rattle.nn_ops.specs.Step.{Outcome, refused, taken, refusal_of}
 use Rattle.nn_script.specs.declared.answer.Answer.TheVariants.{Done, Refused}
 use Rattle.nn_script.specs.Answers.{change_text}
 use Rattle.nn_script.specs.Spelling.{answer_text}
-use Rattle.nn_script.specs.declared.command.ScriptCommand.TheVariants.{Namespace as Change}
+use Rattle.nn_script.specs.declared.command.ScriptCommand.TheVariants.{Namespace as Change, Roll}
 use Rattle.nn_script.specs.declared.command.ScriptCommand.{ScriptCommand}
 use Rattle.nn_script.specs.declared.syntax.Syntax.{Syntax}
 use Rattle.nn_script.specs.Lines.{has_no_answer}
@@ -43,6 +44,7 @@ use Rattle.nn_core.specs.declared.event.End.{End}
 use Rattle.nn_core.specs.declared.event.End.TheVariants.{NoneLeft, Memory}
 use Rattle.nn_core.specs.Ready.{IsReady}
 use Rattle.nn_core.specs.Standing.{unsaved, Stands, Comes, HasIds}
+use Rattle.nn_core.proofs.CallsLemmas.{one_call}
 use Rattle.nn_core.specs.Events.{running, asked_at, Answers, Keeps, StaysStanding, IsChange, unless_failed, HasStepped}
 
 -- ---- what is said
@@ -104,8 +106,8 @@ module _ {told : Type 0} (reading : Result (Option ScriptCommand) Syntax) (journ
 
 pub plain_step : {told : Type 0} (reading : Result (Option ScriptCommand) Syntax) (journal : JournalSet) (count : ℕ) (ns : Namespace) (time time_after : ℕ) (a c : State) (text : Bytes) (said : Result (Unit {0}) Failed) → reading ≢ Ok None
     → ((sight : Sight) → ((i : ℕ) → sight.live i ≡ has journal.live i) → reply_read count (running ns time) sight reading ≡ record { text = text; after = running ns time_after }) → IsReady journal count a → Says told a c text said
-    → HasStepped told reading count ns ns time time_after journal journal a c (unless_failed said)
-plain_step {told} reading journal count ns time time_after a c text (Ok v) some reply ready says =
+    → (IsChange reading → (0 < length text) × (length text ≤ most_said)) → reading ≢ Ok (Some Roll) → HasStepped told reading count ns ns time time_after journal journal a c (unless_failed said)
+plain_step {told} reading journal count ns time time_after a c text (Ok v) some reply ready says short other =
     let fronts = fronts_of text (Ok v) says in record {
       answered = plain_answered reading journal count ns time time_after a c text some reply ready.listed fronts (λ tells. says.said tells ∙ ap (λ x. a.now.said ++ x) (concat_pieces text)) says.answered.faults;
       kept = plain_kept reading journal count ns time time_after a c text some reply ready.listed fronts;
@@ -113,8 +115,10 @@ plain_step {told} reading journal count ns time time_after a c text (Ok v) some 
       ready = plain_ready reading journal count ns time time_after a c text some reply ready.listed fronts ready;
       ended = tt;
       last = omega arith;
+      calls = λ tells change same small. let is = short change in omega (arith, one_call a c text (Ok v) is.0 is.1 says tells);
+      begins = λ e. absurd (other e);
     }
-plain_step {told} reading journal count ns time time_after a c text (Err e) some reply ready says =
+plain_step {told} reading journal count ns time time_after a c text (Err e) some reply ready says short other =
     let fronts = fronts_of text (Err e) says in record {
       answered = tt;
       kept = plain_kept reading journal count ns time time_after a c text some reply ready.listed fronts;
@@ -122,6 +126,8 @@ plain_step {told} reading journal count ns time time_after a c text (Err e) some
       ready = plain_ready reading journal count ns time time_after a c text some reply ready.listed fronts ready;
       ended = says.failed.out_faults;
       last = omega arith;
+      calls = λ tells change same small. let is = short change in omega (arith, one_call a c text (Err e) is.0 is.1 says tells);
+      begins = λ e. absurd (other e);
     }
 
 -- ---- a line whose record was synced, or that made the journal roll
@@ -180,8 +186,9 @@ pub synced_step : {told : Type 0} (reading : Result (Option ScriptCommand) Synta
     → ((sight : Sight) → reply_read count (running ns time) sight reading ≡ record { text = text; after = running ns_after time }) → a.count ≡ count
     → (told → HasIds journal → Stands journal ns a → Comes journal after ns ns_after a b) → Went told journal.live after.live a b → IsReady after count b
     → after.last + 2 * count_of after.live ≤ journal.last + 3 + 2 * count_of journal.live → Says told b c text said
+    → (told → after.live ≡ journal.live → journal.size + most_record ≤ full_segment → IsChange reading → moment b ≤ moment a + 2 * count_of journal.live) → (0 < length text) × (length text ≤ most_said) → (reading ≡ Ok (Some Roll) → after.first ≡ after.last)
     → HasStepped told reading count ns ns_after time time journal after a c (unless_failed said)
-synced_step {told} reading journal after count ns ns_after time a b c text (Ok v) some reply listed comes went ready last says =
+synced_step {told} reading journal after count ns ns_after time a b c text (Ok v) some reply listed comes went ready last says calls short begins =
     let fronts = fronts_of text (Ok v) says in record {
       answered = synced_answered reading journal after count ns ns_after time a b c text some reply listed comes went fronts (λ tells. says.said tells ∙ ap (λ x. b.now.said ++ x) (concat_pieces text)) says.answered.faults;
       kept = synced_kept reading journal after count ns ns_after time a b c text some reply listed comes went fronts;
@@ -189,8 +196,10 @@ synced_step {told} reading journal after count ns ns_after time a b c text (Ok v
       ready = record { listed = fronts.count ∙ ready.listed; below = ready.below; going = ready.going; empty = ready.empty; fit = ready.fit };
       ended = tt;
       last = last;
+      calls = λ tells change same small. omega (arith, calls tells same small change, one_call b c text (Ok v) short.0 short.1 says tells);
+      begins = begins;
     }
-synced_step {told} reading journal after count ns ns_after time a b c text (Err e) some reply listed comes went ready last says =
+synced_step {told} reading journal after count ns ns_after time a b c text (Err e) some reply listed comes went ready last says calls short begins =
     let fronts = fronts_of text (Err e) says in record {
       answered = tt;
       kept = synced_kept reading journal after count ns ns_after time a b c text some reply listed comes went fronts;
@@ -198,6 +207,8 @@ synced_step {told} reading journal after count ns ns_after time a b c text (Err 
       ready = record { listed = fronts.count ∙ ready.listed; below = ready.below; going = ready.going; empty = ready.empty; fit = ready.fit };
       ended = says.failed.out_faults ∙ ap next_count went.quiet.now.out_faults;
       last = last;
+      calls = λ tells change same small. omega (arith, calls tells same small change, one_call b c text (Err e) short.0 short.1 says tells);
+      begins = λ e. tt;
     }
 
 -- no live directory is left: nothing is said
@@ -205,8 +216,8 @@ pub none_left_step : {told : Type 0} (reading : Result (Option ScriptCommand) Sy
     → ((sight : Sight) → reply_read count (running ns time) sight reading ≡ record { text = text; after = running ns_after time }) → a.count ≡ count
     → (told → HasIds journal → Stands journal ns a → Comes journal after ns ns_after a b) → Went told journal.live after.live a b → IsReady after count b
     → after.last + 2 * count_of after.live ≤ journal.last + 3 + 2 * count_of journal.live → ((j : ℕ) → has after.live j ≡ false)
-    → HasStepped told reading count ns any time time journal after a b (Err NoneLeft)
-none_left_step {told} reading journal after count ns ns_after any time a b text some reply listed comes went ready last none = record {
+    → (told → after.live ≡ journal.live → journal.size + most_record ≤ full_segment → IsChange reading → moment b ≤ moment a + 2 * count_of journal.live) → HasStepped told reading count ns any time time journal after a b (Err NoneLeft)
+none_left_step {told} reading journal after count ns ns_after any time a b text some reply listed comes went ready last none calls = record {
   answered = tt;
   kept = synced_kept reading journal after count ns ns_after time a b b text some reply listed comes went (throughout_refl (λ tells. (refl, 0, sym (append-nil b.now.said))));
   stands = tt;
@@ -219,6 +230,8 @@ none_left_step {told} reading journal after count ns ns_after any time a b text 
     went.quiet.now.out_faults,
   );
   last = last;
+  calls = λ tells change same small. omega (arith, calls tells same small change);
+  begins = λ e. tt;
 }
 
 -- want of memory, before anything was written: this moment is one of the step
@@ -251,6 +264,8 @@ memory_step {told} reading journal count ns time a some change ready = record {
   ready = ready;
   ended = (refl, change);
   last = omega arith;
+  calls = λ tells change same small. omega arith;
+  begins = λ e. tt;
 }
 
 -- ---- the same, under other names

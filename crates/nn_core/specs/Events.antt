@@ -1,18 +1,20 @@
 -- What an event does: its answer, which directories are live then, and what each moment of it keeps.
 use Rattle.std.specs.Prelude.{◌≡◌, ℕ, ◌+◌, ◌*◌, ◌≤◌, true, Some, Ok, Err, Option, Result, OnOk, IfErr}
 use Rattle.nn_base.specs.DirSets.{Members, has, count_of}
+use Rattle.nn_base.specs.Limits.{most_record}
 use Rattle.nn_base.specs.Paths.{Bytes}
-use Rattle.nn_host.specs.Moments.{State, faults_at}
+use Rattle.nn_host.specs.Moments.{State, moment, faults_at}
 use Rattle.nn_host.specs.Calls.{next_count}
 use Rattle.nn_host.specs.declared.host.Failed.{Failed}
 use Rattle.nn_tree.specs.Namespace.{Namespace}
 use Rattle.nn_script.specs.declared.command.ScriptCommand.{ScriptCommand}
-use Rattle.nn_script.specs.declared.command.ScriptCommand.TheVariants.{Namespace as Change}
+use Rattle.nn_script.specs.declared.command.ScriptCommand.TheVariants.{Namespace as Change, Roll}
 use Rattle.nn_script.specs.declared.syntax.Syntax.{Syntax}
 use Rattle.nn_script.specs.declared.answer.Answer.TheVariants.{Unread}
 use Rattle.nn_script.specs.Reading.{IsInRange, reading_of}
 use Rattle.nn_script.specs.Spelling.{IsSaid}
 use Rattle.nn_journal.specs.declared.journal.JournalSet.{JournalSet}
+use Rattle.nn_journal.specs.Places.{full_segment}
 use Rattle.nn_run.specs.Running.{Running, Asked}
 use Rattle.nn_run.specs.Steps.{StepKept, HasAnswered}
 use Rattle.nn_core.specs.declared.event.Event.{Event}
@@ -89,3 +91,7 @@ pub record HasStepped (told : Type 0) (reading : Result (Option ScriptCommand) S
   pub ended : IfErr result (λ end. EndsBy end reading journal.live old new)
   -- how many ids it gave
   pub last : after.last + 2 * count_of after.live ≤ journal.last + 3 + 2 * count_of journal.live
+  -- how many calls a command took, where none was dropped and the segment has room: two for each live directory, and one for the answer
+  pub calls : told → IsChange reading → after.live ≡ journal.live → journal.size + most_record ≤ full_segment → moment new ≤ moment old + 2 * count_of journal.live + 1
+  -- once a roll was answered, the segment in progress begins with the last id
+  pub begins : reading ≡ Ok (Some Roll) → OnOk result (after.first ≡ after.last)

@@ -15,7 +15,7 @@ ghost use Rattle.nn_core.specs.Events.{IsEvent, read_as, unless_failed, HasStepp
 
 use crate::event::{End, Event};
 use crate::record::{roll_segment, write_record};
-use nn_base::{DirNo, DirSet, NoMemory};
+use nn_base::{DirNo, DirSet, NoMemory, Txid};
 use nn_host::{Failed, Host};
 use nn_journal::{JournalSet, NoneLeft};
 use nn_ops::{Command, OpRefusal, Plan, apply, prepare};
@@ -68,6 +68,13 @@ impl<T: Tree> Core<T> {
         ensures { result ≡ has self.now.journal.live i.0 }
     {
         self.journal.live(i)
+    }
+
+    /// The last id that was given to a record.
+    pub fn last(&self) -> Txid
+        ensures { result ≡ self.now.journal.last }
+    {
+        self.journal.last()
     }
 
     /// Answers an event. The record of a command is synced in each live directory before its answer is said; a directory in
