@@ -3,7 +3,7 @@ use Rattle.std.proofs.Common.{◌≡◌, ◌≢◌, inl, inr, ⊎_elim, ℕ, ◌
 use Rattle.std.specs.Prelude.{Contains}
 use Rattle.std.proofs.lemmas.Bool.{cases_Bool}
 use Rattle.std.proofs.lemmas.List.{append-nil}
-use Rattle.std.proofs.lemmas.List.Elements.{Contains-append_left}
+use Rattle.std.proofs.lemmas.List.Elements.{Contains-append_left, Contains-append_cases}
 use Rattle.nn_base.specs.DirSets.{has, count_of}
 use Rattle.nn_base.specs.Limits.{most_record}
 use Rattle.nn_base.specs.Paths.{Bytes}
@@ -15,9 +15,10 @@ use Rattle.nn_host.proofs.RunsLemmas.{throughout_refl, throughout_told, througho
 use Rattle.nn_tree.specs.Namespace.{Namespace}
 use Rattle.nn_segment_file.specs.Stages.{StandsAt}
 use Rattle.nn_journal.specs.declared.journal.JournalSet.{JournalSet}
-use Rattle.nn_journal.specs.Among.{StaysLive, IsDropped}
+use Rattle.nn_journal.specs.Among.{EachCounted, StaysLive, IsDropped}
 use Rattle.nn_journal.specs.Places.{Went, full_segment}
 use Rattle.nn_pick.specs.Opening.{Book}
+use Rattle.nn_kept.specs.Laws.{IsPartOf}
 use Rattle.nn_ops.specs.declared.command.Command.{Command}
 use Rattle.nn_ops.specs.declared.refusal.OpRefusal.{OpRefusal}
 use Rattle.nn_ops.specs.Bodies.{op_of}
@@ -37,7 +38,7 @@ use Rattle.nn_run.specs.Running.{Running, Sight, RunReply, reply_read, reply_at}
 use Rattle.nn_run.specs.Steps.{BetweenLines, IsLiveAfter, is_of_step}
 use Rattle.nn_run.specs.Flights.{OnlySays, LeadsTo}
 use Rattle.nn_run.proofs.LineLemmas.{read_none}
-use Rattle.nn_run.proofs.FlightLemmas.{after_flight}
+use Rattle.nn_run.proofs.FlightLemmas.{in_flight, each_kept, after_flight}
 use Rattle.nn_run.proofs.BetweenLemmas.{kept_whichever}
 use Rattle.nn_run.proofs.SyncLemmas.{between_same, both_part, has_text, not_live, not_held, saying_is_kept, syncing_is_kept}
 use Rattle.nn_core.specs.declared.event.End.{End}
@@ -45,7 +46,7 @@ use Rattle.nn_core.specs.declared.event.End.TheVariants.{NoneLeft, Memory}
 use Rattle.nn_core.specs.Ready.{IsReady}
 use Rattle.nn_core.specs.Standing.{unsaved, Stands, Comes, HasIds}
 use Rattle.nn_core.proofs.CallsLemmas.{one_call}
-use Rattle.nn_core.specs.Events.{running, asked_at, Answers, Keeps, StaysStanding, IsChange, unless_failed, HasStepped}
+use Rattle.nn_core.specs.Events.{running, asked_at, Answers, Keeps, StaysStanding, IsChange, unless_failed, HasStepped, HasEnded}
 
 -- ---- what is said
 
@@ -130,6 +131,16 @@ plain_step {told} reading journal count ns time time_after a c text (Err e) some
       begins = λ e. absurd (other e);
     }
 
+-- who is live: those that were, and on which no call failed
+live_by : (journal after : JournalSet) (count : ℕ) (a b c : State) → EachCounted journal.live journal.live after.live a b → ((j : ℕ) → faults_at c j ≡ faults_at b j) → IsLiveAfter count (has journal.live) (has after.live) a c
+live_by journal after count a b c counted same i below room = ⊎_elim
+    (λ (stays : StaysLive journal.live after.live a b i). ((λ e. (same i ∙ stays.faults, sym stays.same_live ∙ e)), (λ both. stays.same_live ∙ both.1)))
+    (λ (dropped : IsDropped journal.live after.live a b i). (
+      (λ e. absurd (let apart = sym dropped.not_live ∙ e in cc)),
+      (λ both. absurd (omega (arith, room, both.0, same i, dropped.faults))),
+    ))
+    (counted i)
+
 -- ---- a line whose record was synced, or that made the journal roll
 
 module _ {told : Type 0} (reading : Result (Option ScriptCommand) Syntax) (journal after : JournalSet) (count : ℕ) (ns ns_after : Namespace) (time : ℕ) (a b c : State) (text : Bytes) (some : reading ≢ Ok None)
@@ -162,22 +173,12 @@ module _ {told : Type 0} (reading : Result (Option ScriptCommand) Syntax) (journ
         (after_flight it.version it.list a.count (has journal.live) (has after.live) (unsaved ns) (unsaved ns_after) journal.last after.last a b it.before it.leads it.flown);
   }
 
-  -- who is live: those that were, and on which no call failed
-  live_by_counts : ((j : ℕ) → faults_at c j ≡ faults_at b j) → IsLiveAfter count (has journal.live) (has after.live) a c
-  live_by_counts same i below room = ⊎_elim
-      (λ (stays : StaysLive journal.live after.live a b i). ((λ e. (same i ∙ stays.faults, sym stays.same_live ∙ e)), (λ both. stays.same_live ∙ both.1)))
-      (λ (dropped : IsDropped journal.live after.live a b i). (
-        (λ e. absurd (let apart = sym dropped.not_live ∙ e in cc)),
-        (λ both. absurd (omega (arith, room, both.0, same i, dropped.faults))),
-      ))
-      (went.counted i)
-
   synced_answered : (told → c.now.said ≡ b.now.said ++ text) → ((j : ℕ) → faults_at c j ≡ faults_at b j) → Answers told reading count (running ns time) (running ns_after time) journal.live after.live a c
   synced_answered said faults line reads =
       let is = synced_reply line reads in record {
         said = λ tells. said tells ∙ ap (λ x. x ++ text) went.quiet.now.said ∙ ap (λ x. a.now.said ++ x) (sym (ap (λ (r : RunReply). r.text) is));
         goes_on = sym (ap (λ (r : RunReply). r.after) is);
-        counted = live_by_counts faults;
+        counted = live_by journal after count a b c went.counted faults;
         sees_live = λ i. refl;
         sees_faults = λ i. refl;
       }
@@ -228,6 +229,7 @@ none_left_step {told} reading journal after count ns ns_after any time a b text 
         (λ (dropped : IsDropped journal.live after.live a b j). dropped.faults)
         (went.counted j),
     went.quiet.now.out_faults,
+    went.quiet.now.said,
   );
   last = last;
   calls = λ tells change same small. omega (arith, calls tells same small change);
@@ -262,10 +264,45 @@ memory_step {told} reading journal count ns time a some change ready = record {
   kept = memory_kept reading journal count ns time a some ready.listed;
   stands = tt;
   ready = ready;
-  ended = (refl, change);
+  ended = (change, refl, refl, refl);
   last = omega arith;
   calls = λ tells change same small. omega arith;
   begins = λ e. tt;
+}
+
+-- ---- the end
+
+-- what they came to is what they stand at
+comes_stand : (journal after : JournalSet) (ns ns_after : Namespace) (a b : State) → b.count ≡ a.count → Comes journal after ns ns_after a b → Stands after ns_after b
+comes_stand journal after ns ns_after a b same it = record {
+  version = it.version;
+  list = it.list;
+  stage = it.stage;
+  matches = it.matches;
+  disks = it.disks;
+  between = subst (λ k. BetweenLines it.version it.list k (has after.live) (λ i. false) (unsaved ns_after) after.last b.now) (sym same)
+      (after_flight it.version it.list a.count (has journal.live) (has after.live) (unsaved ns) (unsaved ns_after) journal.last after.last a b it.before it.leads it.flown);
+}
+
+once : (book : Book) → IsPartOf (book ∷ book ∷ []) (book ∷ [])
+once book other there = ⊎_elim (λ one. one) (λ two. two) (Contains-append_cases (book ∷ []) (book ∷ []) other there)
+
+pub ended : {told : Type 0} (journal after : JournalSet) (count : ℕ) (ns : Namespace) (a b : State) → a.count ≡ count → (told → HasIds journal → Stands journal ns a → Comes journal after ns ns a b) → Went told journal.live after.live a b → after.going ≡ false
+    → HasEnded told count ns journal after a b
+ended journal after count ns a b listed comes went closed = record {
+  kept = λ tells ids stands. (
+      let it = comes tells ids stands in
+      let before = subst (λ k. BetweenLines it.version it.list k (has journal.live) (λ i. false) (unsaved ns) journal.last a.now) listed it.before in
+      throughout_weaker it.flown.each (λ t m flies. (
+        in_flight it.version it.list count (has journal.live) (has after.live) (unsaved ns) (unsaved ns) journal.last after.last a b before it.leads it.flown,
+        once (unsaved ns),
+        each_kept it.version it.list count (has journal.live) (has after.live) (unsaved ns) (unsaved ns) journal.last after.last a b before it.leads it.flown (is_of_step (has journal.live) a) (is_of_step (has journal.live) a) m
+            (not_live (has journal.live) a) (not_live (has journal.live) a) flies,
+      )));
+  stands = λ tells ids stands. comes_stand journal after ns ns a b went.quiet.each.count (comes tells ids stands);
+  counted = live_by journal after count a b b went.counted (λ j. refl);
+  quiet = went.quiet;
+  closed = closed;
 }
 
 -- ---- the same, under other names

@@ -1,10 +1,11 @@
 -- What an event does: its answer, which directories are live then, and what each moment of it keeps.
-use Rattle.std.specs.Prelude.{◌≡◌, ℕ, ◌+◌, ◌*◌, ◌≤◌, true, Some, Ok, Err, Option, Result, OnOk, IfErr}
+use Rattle.std.specs.Prelude.{◌≡◌, ℕ, ◌+◌, ◌*◌, ◌≤◌, true, false, [], ◌∷◌, Some, Ok, Err, Option, Result, OnOk, IfErr}
 use Rattle.nn_base.specs.DirSets.{Members, has, count_of}
 use Rattle.nn_base.specs.Limits.{most_record}
 use Rattle.nn_base.specs.Paths.{Bytes}
 use Rattle.nn_host.specs.Moments.{State, moment, faults_at}
 use Rattle.nn_host.specs.Calls.{next_count}
+use Rattle.nn_host.specs.Runs.{Throughout, Unspoken}
 use Rattle.nn_host.specs.declared.host.Failed.{Failed}
 use Rattle.nn_tree.specs.Namespace.{Namespace}
 use Rattle.nn_script.specs.declared.command.ScriptCommand.{ScriptCommand}
@@ -15,8 +16,9 @@ use Rattle.nn_script.specs.Reading.{IsInRange, reading_of}
 use Rattle.nn_script.specs.Spelling.{IsSaid}
 use Rattle.nn_journal.specs.declared.journal.JournalSet.{JournalSet}
 use Rattle.nn_journal.specs.Places.{full_segment}
+use Rattle.nn_kept.specs.Laws.{KeptInto}
 use Rattle.nn_run.specs.Running.{Running, Asked}
-use Rattle.nn_run.specs.Steps.{StepKept, HasAnswered}
+use Rattle.nn_run.specs.Steps.{StepKept, HasAnswered, IsLiveAfter, is_of_step}
 use Rattle.nn_core.specs.declared.event.Event.{Event}
 use Rattle.nn_core.specs.declared.event.Event.TheVariants.{Line, Bad}
 use Rattle.nn_core.specs.declared.event.End.{End}
@@ -65,11 +67,11 @@ StaysStanding told journal after ns ns_after old new = told → HasIds journal �
 abbrev pub IsChange : Result (Option ScriptCommand) Syntax → Type 0
 IsChange reading = (it : _) × (reading ≡ Ok (Some (Change it)))
 
--- no live directory is left, since each has failed; or nothing has changed for want of memory; or the output failed
-abbrev pub EndsBy : End → Result (Option ScriptCommand) Syntax → Members → State → State → Type 0
-EndsBy NoneLeft reading live old new = ((j : ℕ) → has live j ≡ true → faults_at new j ≡ next_count (faults_at old j)) × (new.now.out_faults ≡ old.now.out_faults)
-EndsBy Memory reading live old new = (new ≡ old) × IsChange reading
-EndsBy OutFault reading live old new = new.now.out_faults ≡ next_count old.now.out_faults
+-- No live directory is left, since each has failed, and nothing was said. Or there was no memory for a command, and nothing has changed. Or the output failed.
+abbrev pub EndsBy : End → Result (Option ScriptCommand) Syntax → JournalSet → JournalSet → Running → Running → State → State → Type 0
+EndsBy NoneLeft reading journal after run run_after old new = ((j : ℕ) → has journal.live j ≡ true → faults_at new j ≡ next_count (faults_at old j)) × (new.now.out_faults ≡ old.now.out_faults) × (new.now.said ≡ old.now.said)
+EndsBy Memory reading journal after run run_after old new = IsChange reading × (new ≡ old) × (after ≡ journal) × (run_after ≡ run)
+EndsBy OutFault reading journal after run run_after old new = new.now.out_faults ≡ next_count old.now.out_faults
 
 -- the output failed over an answer, or it was said
 abbrev pub unless_failed : Result (Unit {0}) Failed → Result (Unit {0}) End
@@ -88,10 +90,25 @@ pub record HasStepped (told : Type 0) (reading : Result (Option ScriptCommand) S
   pub stands : OnOk result (StaysStanding told journal after ns ns_after old new)
   pub ready : IsReady after count new
   -- why it ended the run
-  pub ended : IfErr result (λ end. EndsBy end reading journal.live old new)
+  pub ended : IfErr result (λ end. EndsBy end reading journal after (running ns time) (running ns_after time_after) old new)
   -- how many ids it gave
   pub last : after.last + 2 * count_of after.live ≤ journal.last + 3 + 2 * count_of journal.live
   -- how many calls a command took, where none was dropped and the segment has room: two for each live directory, and one for the answer
   pub calls : told → IsChange reading → after.live ≡ journal.live → journal.size + most_record ≤ full_segment → moment new ≤ moment old + 2 * count_of journal.live + 1
   -- once a roll was answered, the segment in progress begins with the last id
   pub begins : reading ≡ Ok (Some Roll) → OnOk result (after.first ≡ after.last)
+
+-- ---- the end
+
+-- Where they stand so, each moment is kept while the segment in progress is ended, in the one Book.
+abbrev pub EndKeeps : Type 0 → JournalSet → ℕ → Namespace → State → State → Type 0
+EndKeeps told journal count ns old new = told → HasIds journal → Stands journal ns old
+    → Throughout (Unit {0}) old new (KeptInto (λ _. unsaved ns ∷ []) count (λ _. is_of_step (has journal.live) old) (λ _. is_of_step (has journal.live) old))
+
+-- The segment in progress was ended in each live directory: nothing was said, each is live where it was and no call on it failed, and they stand as before.
+pub record HasEnded (told : Type 0) (count : ℕ) (ns : Namespace) (journal after : JournalSet) (old new : State) : Type 0 where
+  pub kept : EndKeeps told journal count ns old new
+  pub stands : StaysStanding told journal after ns ns old new
+  pub counted : IsLiveAfter count (has journal.live) (has after.live) old new
+  pub quiet : Unspoken told old new
+  pub closed : after.going ≡ false

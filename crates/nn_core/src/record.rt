@@ -48,3 +48,16 @@ pub(crate) fn roll_segment<H: Host>(journal: &mut JournalSet, host: &mut H) -> R
 {
     journal.roll(host)
 }
+
+/// Ends the segment in progress, in each live directory.
+pub(crate) fn close_segment<H: Host>(journal: &mut JournalSet, host: &mut H) -> Result<(), NoneLeft>
+    requires ready { IsReady journal.old (H.state host.old).count (H.state host.old) }
+    requires ids { journal.old.last + 128 < 2 ^ 63 }
+    ensures rolls { Rolls H.told journal.old journal.new (H.state host.old) (H.state host.new) }
+    ensures went { Went H.told journal.old.live journal.new.live (H.state host.old) (H.state host.new) }
+    ensures closed { journal.new.going ≡ false }
+    ensures left { OnErr result ((j : ℕ) → has journal.new.live j ≡ false) }
+    ensures some { OnOk result ((j : ℕ) × (has journal.new.live j ≡ true)) }
+{
+    journal.end_segment(host)
+}

@@ -1,5 +1,5 @@
 // One event after another.
-ghost use Rattle.std.specs.Prelude.{◌≡◌, ◌≢◌, ◌+◌, ◌<◌, ◌≤◌, ◌^◌, IfOk, OnOk, None, Some, Ok, ℕ};
+ghost use Rattle.std.specs.Prelude.{◌≡◌, ◌≢◌, ◌+◌, ◌<◌, ◌≤◌, ◌^◌, IfOk, OnOk, OnErr, None, Some, Ok, ℕ, true, false};
 ghost use Rattle.nn_base.specs.DirSets.{has};
 ghost use Rattle.nn_ops.specs.Bodies.{op_of};
 ghost use Rattle.nn_ops.specs.Commands.{IsCommand};
@@ -11,10 +11,10 @@ ghost use Rattle.nn_script.specs.Spelling.{IsSaid};
 ghost use Rattle.nn_script.specs.declared.command.ScriptCommand.TheVariants.{Namespace as ChangeLine, Roll as RollLine};
 ghost use Rattle.nn_script.specs.Reading.{IsInRange};
 ghost use Rattle.nn_core.specs.Ready.{IsReady};
-ghost use Rattle.nn_core.specs.Events.{IsEvent, read_as, unless_failed, HasStepped};
+ghost use Rattle.nn_core.specs.Events.{IsEvent, read_as, unless_failed, HasStepped, HasEnded};
 
 use crate::event::{End, Event};
-use crate::record::{roll_segment, write_record};
+use crate::record::{close_segment, roll_segment, write_record};
 use nn_base::{DirNo, DirSet, NoMemory, Txid};
 use nn_host::{Failed, Host};
 use nn_journal::{JournalSet, NoneLeft};
@@ -91,6 +91,19 @@ impl<T: Tree> Core<T> {
             Event::Line(command) => self.answer(alloc, host, command),
             Event::Bad(fault) => unless_failed(self.speech.say(host, Answer::Unread(fault))),
         }
+    }
+
+    /// Ends the segment in progress in each live directory, as a run does that has read its input to the end. Where that drops
+    /// one, another is begun and ended in the rest. Nothing is said, and no event may follow.
+    pub fn end<H: Host>(&mut self, host: &mut H) -> Result<(), NoneLeft>
+        requires ready { IsReady self.old.journal self.old.count (H.state host.old) }
+        requires ids { self.old.journal.last + 128 < 2 ^ 63 }
+        ensures ended { HasEnded H.told self.old.count (T.meaning self.old.tree) self.old.journal self.new.journal (H.state host.old) (H.state host.new) }
+        ensures left { OnErr result ((j : ℕ) → has self.new.journal.live j ≡ false) }
+        ensures some { OnOk result ((j : ℕ) × (has self.new.journal.live j ≡ true)) }
+        ensures kept { (self.new.count ≡ self.old.count) × (T.meaning self.new.tree ≡ T.meaning self.old.tree) × (self.new.time ≡ self.old.time) }
+    {
+        close_segment(&mut self.journal, host)
     }
 
     fn answer<H: Host>(
