@@ -90,6 +90,7 @@ module _ {told : Type 0} {holders live0 live1 : Members} {a b : State} (p0 p1 : 
       subst (λ (n : ℕ). HasCome told version list (Ended n) p1 p1.last holders live0 live1 a b) m.last (record {
         to = Going p0.last (start_record (p0.last + 1) ∷ []);
         matches = begun p0 p1 version list end m placed;
+        marked = λ before. ([], refl);
         carried = subst (λ (n : ℕ). Carried told version list (Ended p0.last) (Going p0.last (start_record (p0.last + 1) ∷ [])) n holders live0 live1 a b) (sym placed.last) from;
       })
 
@@ -100,6 +101,7 @@ module _ {told : Type 0} {holders live0 live1 : Members} {a b : State} (p0 p1 : 
       record {
         to = Ended (p0.last + 1);
         matches = record { going = placed.going; head = m.head ∙ sym placed.head; last = placed.last; steady = λ n le. m.steady n (omega (arith, le)) };
+        marked = λ before. tt;
         carried = subst (λ (n : ℕ). Carried told version list (Going base kept) (Ended (p0.last + 1)) n holders live0 live1 a b) (sym placed.last) from;
       }
 
@@ -110,6 +112,7 @@ module _ {told : Type 0} {holders live0 live1 : Members} {a b : State} (p0 p1 : 
       record {
         to = Going base (kept ++ logged);
         matches = wrote_place p0 p1 bytes version list base kept logged m placed;
+        marked = λ before. (before.0 ++ logged, ap (λ (rs : List Record). rs ++ logged) before.1);
         carried = subst (λ (n : ℕ). Carried told version list (Going base kept) (Going base (kept ++ logged)) n holders live0 live1 a b) at from;
       }
 
@@ -166,7 +169,7 @@ going_base version list p (Going base kept) m going = sym m.first
 
 -- nothing done
 pub brings_none : {told : Type 0} {holders live : Members} {a : State} (p : Place) (below : ℕ) → Brings told p p below holders live live a a
-brings_none p below version list from m start = record { to = from; matches = m; carried = carried_none below start }
+brings_none p below version list from m start = record { to = from; matches = m; marked = λ before. before; carried = carried_none below start }
 
 -- with an empty buffer no record was logged
 pub empty_brings : {told : Type 0} {holders live : Members} {a : State} {bytes : List ℕ} (p : Place) → bytes ≡ [] → BringsLoggedAhead told bytes p p holders live live a a
@@ -177,6 +180,7 @@ empty_brings {told} {holders} {live} {a} {bytes} p empty version list base kept 
       record {
         to = Going base kept;
         matches = subst (λ (t : List ℕ). IsInProgress version list base kept [] t p) empty (subst (λ (rs : List Record). IsInProgress version list base kept rs bytes p) none m);
+        marked = λ before. before;
         carried = carried_none base start;
       },
     )
@@ -187,13 +191,13 @@ module _ {told : Type 0} {p1 p2 : Place} {holders live0 live1 live2 : Members} {
   come_both : {version : Version} {list : Shared} {from : Stage} {b1 b2 : ℕ} (below : ℕ) → b1 ≤ below → b2 ≤ below → HasCome told version list from p1 b1 holders live0 live1 a b → Brings told p1 p2 b2 holders live1 live2 b c → HasCome told version list from p2 below holders live0 live2 a c
   come_both {version} {list} below low high one two =
       let then = two version list one.to one.matches one.carried.stands in
-      record { to = then.to; matches = then.matches; carried = carried_both one.carried then.carried below low high }
+      record { to = then.to; matches = then.matches; marked = λ before. then.marked (one.marked before); carried = carried_both one.carried then.carried below low high }
 
   pub brings_both : {p0 : Place} {b1 b2 : ℕ} (below : ℕ) → b1 ≤ below → b2 ≤ below → Brings told p0 p1 b1 holders live0 live1 a b → Brings told p1 p2 b2 holders live1 live2 b c → Brings told p0 p2 below holders live0 live2 a c
   brings_both below low high one two version list from m start = come_both below low high (one version list from m start) two
 
 come_lower : {told : Type 0} {version : Version} {list : Shared} {from : Stage} {p : Place} {below : ℕ} {holders live0 live1 : Members} {a b : State} (low : ℕ) → live1 ≡ live0 → HasCome told version list from p below holders live0 live1 a b → HasCome told version list from p low holders live0 live1 a b
-come_lower low same p = record { to = p.to; matches = p.matches; carried = carried_lower low same p.carried }
+come_lower low same p = record { to = p.to; matches = p.matches; marked = p.marked; carried = carried_lower low same p.carried }
 
 pub brings_lower : {told : Type 0} {p0 p1 : Place} {below : ℕ} {holders live0 live1 : Members} {a b : State} (low : ℕ) → live1 ≡ live0 → Brings told p0 p1 below holders live0 live1 a b → Brings told p0 p1 low holders live0 live1 a b
 brings_lower low same p version list from m start = come_lower low same (p version list from m start)
@@ -249,7 +253,7 @@ module _ {told : Type 0} {p1 p2 : Place} {holders live0 live1 live2 : Members} {
       let rose = (settled.rolled refl).rose in (
         p2.last - 1,
         omega (arith, rose),
-        record { to = then.2.to; matches = then.2.matches; carried = carried_both one.carried then.2.carried (p2.last - 1) (omega (arith, rose)) (omega (arith, then.1)) },
+        record { to = then.2.to; matches = then.2.matches; marked = λ before. then.2.marked (one.marked before); carried = carried_both one.carried then.2.carried (p2.last - 1) (omega (arith, rose)) (omega (arith, then.1)) },
       )
   settled_come {version} {list} {from} false one_set some one settled =
       let low = come_lower (p1.last - 1) (one_set refl) one in

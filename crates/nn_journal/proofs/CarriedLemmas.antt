@@ -11,14 +11,14 @@ use Rattle.nn_host.proofs.RunsLemmas.{throughout_trans, throughout_weaker, throu
 use Rattle.nn_marks.specs.declared.version.Version.{Version}
 use Rattle.nn_segment_file.specs.Log.{Shared, Logs}
 use Rattle.nn_segment_file.specs.Steps.{Logged}
-use Rattle.nn_segment_file.specs.Stages.{Stage, Ended, Going, base_of, last_of, IsBegun, OneInProgress, Does}
-use Rattle.nn_journal.specs.Among.{AllAt, AmongAt, EachCounted, SteppedAll}
+use Rattle.nn_segment_file.specs.Stages.{Stage, base_of, last_of, OneInProgress, Does}
+use Rattle.nn_journal.specs.Among.{AllAt, AllAlone, AmongAt, EachCounted, SteppedAll}
 use Rattle.nn_journal.specs.Carried.{Carried}
 use Rattle.nn_segment_file.specs.declared.step.Step.{Step}
 use Rattle.nn_segment_file.proofs.BesideLemmas.{beside_refl, older_not_log}
 use Rattle.nn_journal.proofs.AheadLemmas.{ahead_none, ahead_step, ahead_both}
 use Rattle.nn_segment_file.proofs.CallLemmas.{logs_weaker, logged_weaker}
-use Rattle.nn_segment_file.proofs.StageLemmas.{stage_logs, stage_alone, leads_stands, leads_alone, does_grow, does_rise}
+use Rattle.nn_segment_file.proofs.StageLemmas.{stage_logs, stage_alone, leads_stands, leads_alone, does_grow, does_rise, not_begun, alone_on}
 
 clash : {b : Bool} → b ≡ true → b ≡ false → ⊥
 clash t f = let apart = sym t ∙ f in cc
@@ -53,11 +53,6 @@ carried_step {told} {version} {list} {from} {to} {step} {first} {bytes} {holders
   dropped = λ tells j was lost. ((((stepped.any_moment version list from to does start).ends tells).at j).logged was).logs;
   ahead = ahead_step does start stepped;
 }
-
--- a stage's segment in progress begins behind its base
-not_begun : (stage : Stage) (first : ℕ) → first ≤ base_of stage → ¬ IsBegun stage first
-not_begun (Ended last) first le is = is
-not_begun (Going base kept) first le is = omega (arith, le, is)
 
 -- counts, one after another
 pub counted_both : {live0 live1 live2 : Members} {a b c : State} → EachCounted live0 live0 live1 a b → EachCounted live1 live1 live2 b c → EachCounted live0 live0 live2 a c
@@ -135,6 +130,12 @@ module _ {told : Type 0} {version : Version} {list : Shared} {from mid to : Stag
       | inr gone ↦ logs_weaker (last_of from) below (omega arith) low (first_dropped tells j was gone)
     ];
   }
+
+-- where no other segment was in progress, none is
+pub carried_alone : {told : Type 0} {version : Version} {list : Shared} {from to : Stage} {below : ℕ} {holders old_live live : Members} {a b : State} → Carried told version list from to below holders old_live live a b → told → AllAlone from old_live a → AllAlone to live b
+carried_alone {from = from} {to = to} {a = a} {b = b} p tells alone j is_live =
+    let was = still_live p.counted j is_live in
+    alone_on from to (disk_at a j) (disk_at b j) (p.alone tells j is_live) (((p.any_moment.ends tells).at j).logged was).beside (alone j was)
 
 -- where none is dropped, it doesn't matter how low one would be
 pub carried_lower : {told : Type 0} {version : Version} {list : Shared} {from to : Stage} {below : ℕ} {holders old_live live : Members} {a b : State} (low : ℕ) → live ≡ old_live → Carried told version list from to below holders old_live live a b → Carried told version list from to low holders old_live live a b

@@ -1,18 +1,26 @@
 -- What the steps of a journal make of it and its directories.
-use Rattle.std.proofs.Common.{◌≡◌, ◌≢◌, ◌⊎◌, inl, inr, ⊎_elim, ℕ, ◌+◌, ◌<◌, ◌≤◌, Bool, true, false, [], ◌∷◌, ◌++◌, length, ◌∙◌, subst, arith}
+use Rattle.std.proofs.Common.{◌≡◌, ◌≢◌, ◌⊎◌, inl, inr, ⊎_elim, ℕ, ◌+◌, ◌<◌, ◌≤◌, Bool, true, false, List, [], ◌∷◌, ◌++◌, length, ◌∙◌, ap, subst, arith}
 use Rattle.std.proofs.lemmas.Bool.{cases_Bool}
 use Rattle.nn_base.specs.DirSets.{Members}
 use Rattle.nn_host.specs.Moments.{State, disk_at}
-use Rattle.nn_segment_file.specs.Log.{IsFinalized}
+use Rattle.nn_marks.specs.declared.version.Version.{Version}
+use Rattle.nn_record.specs.declared.transaction.Record.{Record}
+use Rattle.nn_segment_file.specs.Log.{Shared, IsFinalized}
+use Rattle.nn_segment_file.specs.Stages.{Going}
 use Rattle.nn_record.specs.Spelling.{spelling, IsRecord}
 use Rattle.nn_segment_file.specs.declared.step.Step.TheVariants as step
 use Rattle.nn_journal.specs.Among.{SteppedAll}
-use Rattle.nn_journal.specs.Places.{Place, Brings, BringsAhead, BringsLogged, BringsLoggedAhead, end_record, start_record, place_of, most_unended, full_segment}
+use Rattle.nn_journal.specs.Places.{Place, Brings, BringsAhead, BringsLogged, BringsLoggedAhead, IsInProgress, IsMarked, end_record, start_record, place_of, most_unended, full_segment}
 use Rattle.nn_journal.specs.Finalizing.{Finalizes, FinalizesLogged}
 use Rattle.nn_journal.specs.Rolling.{HasSettled}
 use Rattle.nn_journal.specs.declared.journal.JournalSet.{JournalSet}
 use Rattle.nn_journal.proofs.BringsLemmas.{end_brings, start_brings, write_brings, brings_both, brings_on, finalized_then, idle_base, settled_ahead, logged_ahead, Wrote, wrote_place, write_stands}
+use Rattle.nn_journal.proofs.MarkLemmas.{no_items}
 use Rattle.nn_journal.proofs.RoundLemmas.{settled_ended}
+
+-- a segment that was just begun has its mark alone
+pub only_mark : {version : Version} {list : Shared} {base : ℕ} {kept : List Record} {place : Place} → IsInProgress version list base kept [] [] place → IsMarked (Going base kept) → place.first ≡ place.last → kept ≡ start_record (base + 1) ∷ []
+only_mark {base = base} p marked begins = marked.1 ∙ ap (λ (rs : List Record). start_record (base + 1) ∷ rs) (no_items marked.0 (omega (arith, p.first, p.last, begins, ap length marked.1)))
 
 brings_holders : {told : Type 0} {p0 p1 : Place} {below : ℕ} {other holders live0 live1 : Members} {a b : State} → other ≡ holders → Brings told p0 p1 below other live0 live1 a b → Brings told p0 p1 below holders live0 live1 a b
 brings_holders {told} {p0} {p1} {below} {other} {holders} {live0} {live1} {a} {b} same p = subst (λ (h : Members). Brings told p0 p1 below h live0 live1 a b) same p

@@ -97,7 +97,7 @@ module _ (version : Version) (list : Shared) where
 
 -- ---- whether the buffer is empty
 
-no_items : {A : Type 0} (items : List A) → length items ≡ 0 → items ≡ []
+pub no_items : {A : Type 0} (items : List A) → length items ≡ 0 → items ≡ []
 no_items [] e = refl
 no_items (x ∷ items) e = absurd (omega (arith, e))
 

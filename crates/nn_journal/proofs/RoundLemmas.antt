@@ -2,15 +2,15 @@
 use Rattle.std.proofs.Common.{◌≡◌, ◌≢◌, ◌⊎◌, inl, inr, ⊎_elim, ℕ, suc, ◌+◌, ◌*◌, ◌<◌, ◌≤◌, ◌==◌, ◌&&◌, not, Bool, true, false, cond, [], refl, sym, ◌∙◌, ap, subst, arith, vec_capacity}
 use mathlib.Core.Bool.{beq}
 use Rattle.std.specs.Cmp.Lexicographic.{pointwise}
-use Rattle.std.proofs.lemmas.Bool.{and_parts}
+use Rattle.std.proofs.lemmas.Bool.{and_parts, cases_Bool}
 use Rattle.std.proofs.lemmas.Bool.Decides.{eqb_tells}
 use Rattle.nn_base.specs.DirSets.{Members, values, has, count_of}
-use Rattle.nn_base.proofs.DirSetLemmas.{same_members, equal_sets, other_sets, fewer, not_more}
+use Rattle.nn_base.proofs.DirSetLemmas.{same_members, equal_sets, other_sets, fewer, not_more, at_most_eight}
 use Rattle.nn_host.specs.Moments.{State, moment}
 use Rattle.nn_journal.specs.Among.{EachCounted}
 use Rattle.nn_journal.specs.Places.{Place, Brings, BringsAhead, Went, most_buffer, most_unended, full_segment, place_of}
 use Rattle.nn_journal.specs.Finalizing.{Finalizes}
-use Rattle.nn_journal.specs.Rolling.{HasSettled}
+use Rattle.nn_journal.specs.Rolling.{CallsWithin, HasSettled}
 use Rattle.nn_journal.specs.declared.journal.JournalSet.{JournalSet}
 use Rattle.nn_journal.proofs.AllLemmas.{not_true}
 use Rattle.nn_journal.proofs.CarriedLemmas.{still_live}
@@ -66,8 +66,8 @@ pub record Rolling (told : Type 0) (holders : Members) (p0 : Place) (live0 : Mem
   pub ids_again : again ≡ true → p.last + 2 * count_of live ≤ p0.last + 2 * count_of live0
   pub low : (below : ℕ) × IsLow again below p.last × Brings told p0 p below holders live0 live a b
   pub ended : HasBegun p0 live0 p live a b ⊎ HasEndedFirst told p0 live0 p live a b
-  pub calls : told → live ≡ live0 → again ≡ false → moment b ≤ moment a + 10 * count_of live0
-  pub calls_again : told → live ≡ live0 → again ≡ true → moment b ≤ moment a
+  pub calls : told → again ≡ false → moment b + 80 * count_of live ≤ moment a + 90 * count_of live0
+  pub calls_again : told → again ≡ true → moment b + 90 * count_of live ≤ moment a + 90 * count_of live0
 
 rolling_begins : {told : Type 0} {holders live : Members} {p : Place} {a : State} → Rolling told holders p live true p live a a
 rolling_begins {told} {holders} {live} {p} {a} = record {
@@ -78,8 +78,8 @@ rolling_begins {told} {holders} {live} {p} {a} = record {
   ids_again = λ is. omega arith;
   low = (p.last, omega arith, brings_none p p.last);
   ended = inl (record { same_place = refl; same_live = refl; same_state = refl });
-  calls = λ tells same is. absurd (let apart = is in cc);
-  calls_again = λ tells same is. omega arith;
+  calls = λ tells is. absurd (let apart = is in cc);
+  calls_again = λ tells is. omega arith;
 }
 
 -- a round, with what it ends and how many calls it makes
@@ -113,8 +113,8 @@ module _ {told : Type 0} {holders live0 live live2 : Members} {p0 p p2 : Place} 
         ids_again = λ is. omega (arith, less, low, two);
         low = (p2.last, omega arith, brings_both p2.last (omega (arith, before.low.1, two)) (omega arith) before.low.2 round.brings);
         ended = inr first_ended;
-        calls = λ tells same is. absurd (let apart = is in cc);
-        calls_again = λ tells same is. absurd (apart refl (same ∙ sym (none_dropped before.went.counted round.went.counted same)));
+        calls = λ tells is. absurd (let apart = is in cc);
+        calls_again = λ tells is. omega (arith, less, at_most_eight live, round.calls tells, before.calls_again tells refl);
       }
   rolling_on false apart one =
       let same : live2 ≡ live = one refl in
@@ -128,8 +128,8 @@ module _ {told : Type 0} {holders live0 live live2 : Members} {p0 p p2 : Place} 
         ids_again = λ is. absurd (let apart = is in cc);
         low = (before.low.0, omega (arith, before.low.1, two), brings_both before.low.0 (omega arith) (omega arith) before.low.2 (brings_lower before.low.0 same round.brings));
         ended = inr first_ended;
-        calls = λ tells all is. omega (arith, round.calls tells, before.calls_again tells (sym same ∙ all) refl, ap count_of (sym same ∙ all));
-        calls_again = λ tells all is. absurd (let apart = is in cc);
+        calls = λ tells is. omega (arith, round.calls tells, before.calls_again tells refl, ap count_of same);
+        calls_again = λ tells is. absurd (let apart = is in cc);
       }
 
 -- ---- a journal in its rounds
@@ -202,8 +202,8 @@ module _ {told : Type 0} {holders live0 live : Members} {p0 p : Place} {again : 
   pub rounds_ended : Finalizes told p0 live0 live a b
   rounds_ended = ended_by rolling.ended
 
-  pub rounds_calls : told → live ≡ live0 → moment b ≤ moment a + 10 * count_of live0
-  rounds_calls tells same = rolling.calls tells same is
+  pub rounds_calls : CallsWithin told 10 live0 live a b
+  rounds_calls tells = omega (arith, rolling.calls tells is)
 
 -- ---- what follows a step
 
@@ -217,6 +217,20 @@ module _ {told : Type 0} {p1 p2 : Place} {holders live1 live2 : Members} {b c : 
   pub settled_ids_more : {live0 : Members} {a : State} (again : Bool) → EachCounted live0 live0 live1 a b → HasSettled again told p1 p2 holders live1 live2 b c → p2.last + 2 * count_of live2 ≤ p1.last + 2 + 2 * count_of live0
   settled_ids_more {live0} true counted settled = omega (arith, (settled.rolled refl).ids, not_more live0 live1 (still_live counted))
   settled_ids_more {live0} false counted settled = omega (arith, ap (λ (p : Place). p.last) (settled.stayed refl).0, ap count_of (settled.stayed refl).1, not_more live0 live1 (still_live counted))
+
+  -- how many calls: a step that has a round only after a drop, or for another reason too
+  module _ {live0 : Members} {a : State} (n : ℕ) (again : Bool) (made : told → moment b ≤ moment a + n) (counted : EachCounted live0 live0 live1 a b) where
+    pub settled_calls : (again ≡ true → live1 ≢ live0) → HasSettled again told p1 p2 holders live1 live2 b c → told → moment c + 80 * count_of live2 ≤ moment a + n + 80 * count_of live0
+    settled_calls apart settled tells = elim (cases_Bool again) [
+      | inl is ↦ omega (arith, made tells, fewer live0 live1 (still_live counted) (apart is), at_most_eight live0, (settled.rolled is).calls tells)
+      | inr is ↦ omega (arith, made tells, not_more live0 live1 (still_live counted), ap moment (settled.stayed is).2, ap count_of (settled.stayed is).1)
+    ]
+
+    pub settled_calls_more : HasSettled again told p1 p2 holders live1 live2 b c → told → moment c + 80 * count_of live2 ≤ moment a + n + 90 * count_of live0
+    settled_calls_more settled tells = elim (cases_Bool again) [
+      | inl is ↦ omega (arith, made tells, not_more live0 live1 (still_live counted), (settled.rolled is).calls tells)
+      | inr is ↦ omega (arith, made tells, not_more live0 live1 (still_live counted), ap moment (settled.stayed is).2, ap count_of (settled.stayed is).1)
+    ]
 
 -- nothing was done after a step that dropped none and left no full segment
 pub settled_none : {told : Type 0} {p1 p2 : Place} {holders live0 live1 live2 : Members} {a b c : State} (again : Bool) (size : ℕ) → (again ≡ true → (live1 ≢ live0) ⊎ (full_segment < size)) → size ≤ full_segment → EachCounted live0 live0 live1 a b → EachCounted live1 live1 live2 b c → live2 ≡ live0

@@ -7,12 +7,16 @@ use Rattle.nn_host.specs.Runs.{Throughout, EachDir, Unspoken}
 use Rattle.nn_marks.specs.declared.version.Version.{Version}
 use Rattle.nn_segment_file.specs.Log.{Shared}
 use Rattle.nn_segment_file.specs.Steps.{Logged}
-use Rattle.nn_segment_file.specs.Stages.{Stage, base_of, last_of, StandsAt, Does, Leads, calls_of}
+use Rattle.nn_segment_file.specs.Stages.{Stage, base_of, last_of, StandsAt, IsAlone, Does, Leads, calls_of}
 use Rattle.nn_segment_file.specs.declared.step.Step.{Step}
 
 -- each of them stands here
 abbrev pub AllAt : Version → Shared → Stage → Members → State → Type 0
 AllAt version list stage among s = (j : ℕ) → has among j ≡ true → StandsAt version list stage (disk_at s j)
+
+-- in none of them another segment is in progress
+abbrev pub AllAlone : Stage → Members → State → Type 0
+AllAlone stage among s = (j : ℕ) → has among j ≡ true → IsAlone stage (disk_at s j)
 
 -- at a moment the chain of each of them ends between the two stages, and all others are as they were
 pub record AmongAt (version : Version) (list : Shared) (from to : Stage) (among : Members) (old : State) (j : ℕ) (dir : Dir) : Type 0 where

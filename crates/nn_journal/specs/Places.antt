@@ -1,5 +1,5 @@
 -- What a journal keeps in mind, when its live directories stand so, and what a call makes of both.
-use Rattle.std.specs.Prelude.{◌≡◌, ℕ, ◌+◌, ◌<◌, ◌≤◌, ◌-◌, ◌^◌, Bool, true, false, List, [], length, vec_len, vec_capacity}
+use Rattle.std.specs.Prelude.{◌≡◌, ℕ, ◌+◌, ◌<◌, ◌≤◌, ◌-◌, ◌^◌, Bool, true, false, List, [], ◌∷◌, length, vec_len, vec_capacity}
 use Rattle.nn_base.specs.DirSets.{Members}
 use Rattle.nn_base.specs.Limits.{most_segment}
 use Rattle.nn_host.specs.Moments.{State}
@@ -53,6 +53,11 @@ end_record id = record { id = id; op = EndLogSegment }
 abbrev pub start_record : ℕ → Record
 start_record id = record { id = id; op = StartLogSegment }
 
+-- a segment that is in progress has its mark first
+abbrev pub IsMarked : Stage → Type 0
+IsMarked (Ended last) = Unit {0}
+IsMarked (Going base kept) = (rest : List Record) × (kept ≡ start_record (base + 1) ∷ rest)
+
 -- nothing but marks of segments comes after this id in the list
 abbrev pub IsSteady : Shared → ℕ → Type 0
 IsSteady list last = (n : ℕ) → last ≤ n → list (n + 1) ≡ list n
@@ -86,10 +91,11 @@ Matches version list (Going base kept) place = IsInProgress version list base ke
 
 -- ---- what a call makes of both
 
--- The live directories came from one stage to the one that the journal has in mind now.
+-- The live directories came from one stage to the one that the journal has in mind now. A segment that was begun has its mark first.
 pub record HasCome (told : Type 0) (version : Version) (list : Shared) (from : Stage) (place : Place) (below : ℕ) (holders old_live live : Members) (old new : State) : Type 0 where
   pub to : Stage
   pub matches : Matches version list to place
+  pub marked : IsMarked from → IsMarked to
   pub carried : Carried told version list from to below holders old_live live old new
 
 -- whatever stage they stand at as the journal has it in mind: those that are dropped end at `below` or before

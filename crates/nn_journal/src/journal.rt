@@ -2,12 +2,11 @@
 ghost use Rattle.std.specs.Prelude.{◌≡◌, ◌↔◌, ◌+◌, ◌*◌, ◌≢◌, ◌⊎◌, ◌<◌, ◌≤◌, ◌++◌, ◌^◌, ◌==◌, ◌&&◌, ◌||◌, not, ℕ, true, false, [], OnOk, OnErr, IfOk, vec_len, vec_capacity};
 ghost use Rattle.nn_base.specs.DirSets.{Members, has, count_of};
 ghost use Rattle.nn_base.specs.Limits.{most_record};
-ghost use Rattle.nn_host.specs.Moments.{moment};
 ghost use Rattle.nn_record.specs.Ops.{IsOp};
 ghost use Rattle.nn_record.specs.Spelling.{spelling, IsRecord};
 ghost use Rattle.nn_segment.specs.Segment.{header};
 ghost use Rattle.nn_journal.specs.Finalizing.{Finalizes, FinalizesLogged};
-ghost use Rattle.nn_journal.specs.Rolling.{DropsAhead};
+ghost use Rattle.nn_journal.specs.Rolling.{CallsWithin, DropsAhead};
 ghost use Rattle.nn_journal.specs.Places.{BringsAhead, BringsLoggedAhead, IsFit, Went, most_buffer, full_segment, place_of};
 
 use nn_base::limits::{MOST_RECORD, MOST_SEGMENT};
@@ -129,7 +128,7 @@ impl JournalSet {
         ensures begins { self.new.first ≡ self.new.last }
         ensures rose { self.old.last < self.new.last }
         ensures next { self.new.live ≡ self.old.live → self.new.last ≡ self.old.last + 1 }
-        ensures calls { H.told → self.new.live ≡ self.old.live → moment (H.state host.new) ≤ moment (H.state host.old) + 7 * count_of self.old.live }
+        ensures calls { CallsWithin H.told 7 self.old.live self.new.live (H.state host.old) (H.state host.new) }
         ensures last { self.new.last + 2 * count_of self.new.live ≤ self.old.last + 2 + 2 * count_of self.old.live }
         ensures went { Went H.told self.old.live self.new.live (H.state host.old) (H.state host.new) }
         ensures left { OnErr result ((j : ℕ) → has self.new.live j ≡ false) }
@@ -156,7 +155,8 @@ impl JournalSet {
         ensures stays { self.new.live ≡ self.old.live → self.old.size + vec_len self.old.buffer ≤ full_segment → (self.new.last ≡ self.old.last) × (self.new.first ≡ self.old.first) × (self.new.size ≡ self.old.size + vec_len self.old.buffer) }
         ensures ended { (self.new.live ≢ self.old.live) ⊎ (full_segment < self.old.size + vec_len self.old.buffer) → FinalizesLogged H.told self.old.buffer.items (place_of self.old) self.old.live self.new.live (H.state host.old) (H.state host.new) }
         ensures last { self.new.last + 2 * count_of self.new.live ≤ self.old.last + 2 + 2 * count_of self.old.live }
-        ensures calls { H.told → self.new.live ≡ self.old.live → self.old.size + vec_len self.old.buffer ≤ full_segment → moment (H.state host.new) ≤ moment (H.state host.old) + 2 * count_of self.old.live }
+        ensures calls { self.old.size + vec_len self.old.buffer ≤ full_segment → CallsWithin H.told 2 self.old.live self.new.live (H.state host.old) (H.state host.new) }
+        ensures calls_full { CallsWithin H.told 12 self.old.live self.new.live (H.state host.old) (H.state host.new) }
         ensures went { Went H.told self.old.live self.new.live (H.state host.old) (H.state host.new) }
         ensures left { OnErr result ((j : ℕ) → has self.new.live j ≡ false) }
         ensures some { OnOk result ((j : ℕ) × (has self.new.live j ≡ true)) }
@@ -184,7 +184,7 @@ impl JournalSet {
         ensures ended { Finalizes H.told (place_of self.old) self.old.live self.new.live (H.state host.old) (H.state host.new) }
         ensures rose { self.old.last < self.new.last }
         ensures next { self.new.live ≡ self.old.live → self.new.last ≡ self.old.last + 1 }
-        ensures calls { H.told → self.new.live ≡ self.old.live → moment (H.state host.new) ≤ moment (H.state host.old) + 3 * count_of self.old.live }
+        ensures calls { CallsWithin H.told 3 self.old.live self.new.live (H.state host.old) (H.state host.new) }
         ensures last { self.new.last + 2 * count_of self.new.live ≤ self.old.last + 2 + 2 * count_of self.old.live }
         ensures went { Went H.told self.old.live self.new.live (H.state host.old) (H.state host.new) }
         ensures left { OnErr result ((j : ℕ) → has self.new.live j ≡ false) }
@@ -207,7 +207,7 @@ impl JournalSet {
         requires ids { self.old.last + 64 < 2 ^ 63 }
         ensures brought { BringsAhead H.told (place_of self.old) (place_of self.new) self.old.holders self.old.live self.new.live (H.state host.old) (H.state host.new) }
         ensures ended { Finalizes H.told (place_of self.old) self.old.live self.new.live (H.state host.old) (H.state host.new) }
-        ensures calls { H.told → self.new.live ≡ self.old.live → moment (H.state host.new) ≤ moment (H.state host.old) + 10 * count_of self.old.live }
+        ensures calls { CallsWithin H.told 10 self.old.live self.new.live (H.state host.old) (H.state host.new) }
         ensures begins { self.new.first ≡ self.new.last }
         ensures rose { self.old.last < self.new.last }
         ensures last { self.new.last + 2 * count_of self.new.live ≤ self.old.last + 2 + 2 * count_of self.old.live }

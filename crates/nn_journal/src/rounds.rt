@@ -5,7 +5,7 @@ ghost use Rattle.nn_record.specs.Spelling.{spelling, IsRecord};
 ghost use Rattle.nn_journal.specs.Among.{SteppedAll};
 ghost use Rattle.nn_host.specs.Moments.{moment};
 ghost use Rattle.nn_journal.specs.Finalizing.{Finalizes};
-ghost use Rattle.nn_journal.specs.Rolling.{HasSettled};
+ghost use Rattle.nn_journal.specs.Rolling.{CallsWithin, HasSettled};
 ghost use Rattle.nn_journal.specs.Places.{Brings, BringsAhead, Went, end_record, start_record, most_buffer, most_unended, full_segment, place_of};
 ghost use Rattle.nn_segment_file.specs.declared.step.Step.TheVariants.{Start, Write, End};
 
@@ -157,7 +157,7 @@ impl JournalSet {
         ensures rose { self.old.last < self.new.last }
         ensures brought { BringsAhead H.told (place_of self.old) (place_of self.new) self.old.holders self.old.live self.new.live (H.state host.old) (H.state host.new) }
         ensures ended { Finalizes H.told (place_of self.old) self.old.live self.new.live (H.state host.old) (H.state host.new) }
-        ensures calls { H.told → self.new.live ≡ self.old.live → moment (H.state host.new) ≤ moment (H.state host.old) + 10 * count_of self.old.live }
+        ensures calls { CallsWithin H.told 10 self.old.live self.new.live (H.state host.old) (H.state host.new) }
         ensures ids { self.new.last + 2 * count_of self.new.live ≤ self.old.last + 2 + 2 * count_of self.old.live }
         ensures went { Went H.told self.old.live self.new.live (H.state host.old) (H.state host.new) }
         ensures left { OnErr result ((j : ℕ) → has self.new.live j ≡ false) }

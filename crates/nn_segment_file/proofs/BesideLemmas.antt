@@ -1,5 +1,5 @@
 -- The steps of a segment touch nothing but the log.
-use Rattle.std.proofs.Common.{◌≡◌, ◌≢◌, ⊎_elim, inl, inr, ℕ, ◌+◌, ◌<◌, ◌≤◌, List, Result, Some, None, refl, sym, ◌∙◌, ap, arith}
+use Rattle.std.proofs.Common.{◌≡◌, ◌≢◌, ⊎_elim, inl, inr, ℕ, ◌<◌, ◌≤◌, List, Result, Some, None, refl, sym, ◌∙◌, ap, arith}
 use Rattle.std.proofs.lemmas.Option.{same_Some}
 use Rattle.nn_base.specs.declared.sub.Sub.{Sub}
 use Rattle.nn_base.specs.declared.sub.Sub.TheVariants.{Current}

@@ -1,5 +1,5 @@
 -- The steps of one directory, from call to call.
-use Rattle.std.proofs.Common.{◌≡◌, ◌⊎◌, inl, inr, ⊎_elim, refl, ℕ, ◌+◌, ◌<◌, ◌≤◌, ◌^◌, List, [], ◌∷◌, ◌++◌, length, Option, Some, true, Result, Ok, Err, OnOk, sym, ◌∙◌, ap, subst, arith, length-append, append-nil}
+use Rattle.std.proofs.Common.{◌≡◌, ◌⊎◌, inl, inr, ⊎_elim, refl, ℕ, ◌+◌, ◌<◌, ◌≤◌, ◌^◌, List, [], ◌∷◌, ◌++◌, length, Option, Some, None, true, Result, Ok, Err, OnOk, sym, ◌∙◌, ap, subst, arith, length-append, append-nil}
 use Rattle.std.proofs.lemmas.List.{append_cancel_left}
 use Rattle.nn_base.specs.Limits.{most_segment}
 use Rattle.nn_base.specs.declared.sub.Sub.TheVariants.{Current}
@@ -214,12 +214,13 @@ module _ {T E told : Type 0} {i first : ℕ} {bytes : List ℕ} {a b : State} wh
           → OnlyAt told i c d (OldOrNew Current SeenTmp Seen (seen_text_of f) (disk_at c i)) → Writes version list last rs [] (InProgress f) (disk_at d i))
           (sym goes.begins) (λ g x y z s. started version list last rs bytes g i a (λ t. start) x y z s tells) goes made wrote (stands_at version list last rs goes (λ t. start)) seen
 
-      pub start_done : {R G : Type 0} (result : Result R G) → told → ((disk_at c i).has Current ≡ true → OnOk result ((disk_at d i).file Current Seen ≡ certain (Some (seen_text_of first)))) → HasStarted i first bytes a d result
+      pub start_done : {R G : Type 0} (result : Result R G) → told → ((disk_at c i).has Current ≡ true → OnOk result (((disk_at d i).file Current Seen ≡ certain (Some (seen_text_of first))) × ((disk_at d i).file Current SeenTmp ≡ None))) → HasStarted i first bytes a d result
       start_done result tells says version list last rs goes start =
           let before = stands_at version list last rs goes (λ t. start) tells in
           on_ok_by result (says before.rests.has) (λ said. record {
             writes = subst (λ (f : ℕ). Writes version list last rs [] (InProgress f) (disk_at d i)) goes.begins (seen_disk version list last rs goes start tells);
-            seen = subst (λ (f : ℕ). (disk_at d i).file Current Seen ≡ certain (Some (seen_text_of f))) goes.begins said;
+            seen = subst (λ (f : ℕ). (disk_at d i).file Current Seen ≡ certain (Some (seen_text_of f))) goes.begins said.0;
+            tmp = said.1;
           })
 
 -- ---- a segment is ended

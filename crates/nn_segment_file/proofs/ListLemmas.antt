@@ -1,5 +1,5 @@
 -- The shared list is extended: what it says up to an id stays.
-use Rattle.std.proofs.Common.{◌≡◌, ℕ, ◌+◌, ◌≤◌, List, [], ◌∷◌, ◌++◌, length, sym, ◌∙◌, ap, subst, arith, append-nil}
+use Rattle.std.proofs.Common.{◌≡◌, ℕ, ◌+◌, List, [], ◌∷◌, ◌++◌, length, sym, ◌∙◌, ap, subst, arith, append-nil}
 use Rattle.nn_base.specs.declared.file_name.FileName.{FileName}
 use Rattle.nn_host.specs.Disk.{Disk}
 use Rattle.nn_marks.specs.declared.version.Version.{Version}
@@ -59,4 +59,5 @@ stands_relist version list other (Ended last) d agree at = rests_relist version 
 stands_relist version list other (Going base kept) d agree at = record {
   writes = writes_relist version list other base kept [] _ d (λ n le. agree n (omega (arith, le, ap length (append-nil kept)))) at.writes;
   seen = at.seen;
+  tmp = at.tmp;
 }

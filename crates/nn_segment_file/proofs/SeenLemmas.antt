@@ -1,14 +1,16 @@
 -- Writing seen_txid changes no chain.
-use Rattle.std.proofs.Common.{◌≡◌, ◌≢◌, inl, inr, ⊎_elim, ℕ, ◌+◌, ◌^◌, ◌<◌, ◌≤◌, List, Some, None, refl, sym, ◌∙◌, subst, arith}
+use Rattle.std.proofs.Common.{◌≡◌, ◌≢◌, inl, inr, ⊎_elim, ℕ, ◌+◌, ◌^◌, ◌<◌, ◌≤◌, List, Some, None, refl, sym, ◌∙◌, ap, subst, arith}
 use Rattle.std.specs.Fmt.{decimal}
 use Rattle.std.proofs.lemmas.Option.{same_Some}
 use Rattle.nn_base.specs.declared.sub.Sub.TheVariants.{Current}
 use Rattle.nn_base.specs.declared.file_name.FileName.{FileName}
 use Rattle.nn_base.specs.declared.file_name.FileName.TheVariants.{Version as VersionFile, Seen, SeenTmp}
 use Rattle.nn_base.proofs.NamesLemmas.{file_tells}
-use Rattle.nn_host.specs.Disk.{Disk, Reads, Leaves}
+use Rattle.nn_host.specs.Disk.{Disk, Reads, Leaves, certain}
+use Rattle.nn_host.specs.Moments.{State, disk_at}
 use Rattle.nn_host.proofs.FilesLemmas.{there, beside, file_kept}
-use Rattle.nn_small.specs.Small.{OldOrNew}
+use Rattle.nn_small.specs.Small.{OldOrNew, Written}
+use Rattle.nn_small.proofs.SmallLemmas.{replaced_name, replaced_tmp}
 use Rattle.nn_marks.specs.declared.version.Version.{Version}
 use Rattle.nn_marks.specs.Seen.{seen_text_of, IsSeenText}
 use Rattle.nn_marks.proofs.SeenLemmas.{number_in-decimal, seen_only}
@@ -19,6 +21,13 @@ use Rattle.nn_chain.specs.Fair.{IsFair}
 use Rattle.nn_chain.proofs.SameLemmas.{SameLog, not_segment, none_same, chain_same}
 use Rattle.nn_chain.proofs.SmallFileLemmas.{BesideSmall, LeftSmall, small_log, left_small}
 use Rattle.nn_segment_file.specs.Log.{Shared, EndsAt, EndsWithin, Logs, Rests, without, Writes}
+
+-- what stands there once it is written
+pub seen_written : {i : ℕ} {bytes : List ℕ} {old new : State} → Written i Current SeenTmp Seen bytes old new → ((disk_at new i).file Current Seen ≡ certain (Some bytes)) × ((disk_at new i).file Current SeenTmp ≡ None)
+seen_written {i} {bytes} {old} {new} written = (
+  ap (λ (d : Disk). d.file Current Seen) written.disk ∙ replaced_name (disk_at old i) Current SeenTmp Seen (certain (Some bytes)),
+  ap (λ (d : Disk). d.file Current SeenTmp) written.disk ∙ replaced_tmp (disk_at old i) Current SeenTmp Seen (certain (Some bytes)) (λ e. cc),
+)
 
 -- ---- what seen_txid says
 

@@ -38,6 +38,10 @@ IsBegun (Going base kept) first = first ≡ base + 1
 abbrev pub OneInProgress : Stage → Stage → Disk → Type 0
 OneInProgress from to d = (first : ℕ) → IsInRange (InProgress first) → base_of from < first → ¬ IsBegun to first → d.file Current (InProgress first) ≡ None
 
+-- no segment is in progress but that of the stage
+abbrev pub IsAlone : Stage → Disk → Type 0
+IsAlone stage d = (first : ℕ) → IsInRange (InProgress first) → ¬ IsBegun stage first → d.file Current (InProgress first) ≡ None
+
 -- a disk that has come so far, all of it synced
 abbrev pub StandsAt : Version → Shared → Stage → Disk → Type 0
 StandsAt version list (Ended last) d = Rests version list last d

@@ -1,8 +1,8 @@
 -- What the steps of one directory's segment in progress ask for, and what they give.
-use Rattle.std.specs.Prelude.{◌≡◌, ◌⊎◌, ℕ, ◌+◌, ◌≤◌, List, [], ◌++◌, length, Result, OnOk, Some}
+use Rattle.std.specs.Prelude.{◌≡◌, ◌⊎◌, ℕ, ◌+◌, ◌≤◌, List, [], ◌++◌, length, Result, OnOk, Some, None}
 use Rattle.nn_base.specs.Limits.{most_segment}
 use Rattle.nn_base.specs.declared.sub.Sub.TheVariants.{Current}
-use Rattle.nn_base.specs.declared.file_name.FileName.TheVariants.{InProgress, Edits, Seen}
+use Rattle.nn_base.specs.declared.file_name.FileName.TheVariants.{InProgress, Edits, Seen, SeenTmp}
 use Rattle.nn_host.specs.Disk.{Disk, certain}
 use Rattle.nn_host.specs.Moments.{State, disk_at}
 use Rattle.nn_host.specs.Runs.{OnlyAt}
@@ -21,10 +21,11 @@ pub record GoesOn (version : Version) (list : Shared) (last : ℕ) (kept new : L
   pub follows : Follows list (last + length kept) new
   pub small : length (segment_text version.layout (kept ++ new)) ≤ most_segment
 
--- a segment is in progress behind this id, all of it synced, and seen_txid holds its first id
+-- a segment is in progress behind this id, all of it synced, and seen_txid holds its first id, with no .tmp beside it
 pub record IsGoing (version : Version) (list : Shared) (last : ℕ) (kept : List Record) (d : Disk) : Type 0 where
   pub writes : Writes version list last kept [] (InProgress (last + 1)) d
   pub seen : d.file Current Seen ≡ certain (Some (seen_text_of (last + 1)))
+  pub tmp : d.file Current SeenTmp ≡ None
 
 -- each fair stop leaves a chain that ends from lo to hi, and all but the log after `base` is as it was
 pub record Logged (version : Version) (list : Shared) (base lo hi : ℕ) (old d : Disk) : Type 0 where

@@ -1,5 +1,5 @@
 // The segment in progress of one directory.
-ghost use Rattle.std.specs.Prelude.{◌≡◌, ◌+◌, ◌<◌, ◌≤◌, true, Some, OnOk};
+ghost use Rattle.std.specs.Prelude.{◌≡◌, ◌+◌, ◌<◌, ◌≤◌, true, Some, None, OnOk};
 ghost use Rattle.nn_host.specs.Disk.{certain};
 ghost use Rattle.nn_host.specs.Moments.{disk_at, moment};
 ghost use Rattle.nn_host.specs.Calls.{IsCounted};
@@ -63,7 +63,7 @@ pub fn begin_segment<H: Host>(
 
 fn write_seen<H: Host>(host: &mut H, i: DirNo, id: Txid) -> Result<(), Failed>
     requires below { i.0 < (H.state host.old).count }
-    ensures ok { H.told → (disk_at (H.state host.old) i.0).has Current ≡ true → OnOk result ((disk_at (H.state host.new) i.0).file Current Seen ≡ certain (Some (seen_text_of id))) }
+    ensures ok { H.told → (disk_at (H.state host.old) i.0).has Current ≡ true → OnOk result (((disk_at (H.state host.new) i.0).file Current Seen ≡ certain (Some (seen_text_of id))) × ((disk_at (H.state host.new) i.0).file Current SeenTmp ≡ None)) }
     ensures any_moment { OnlyAt H.told i.0 (H.state host.old) (H.state host.new) (OldOrNew Current SeenTmp Seen (seen_text_of id) (disk_at (H.state host.old) i.0)) }
     ensures still { EndsByFailure H.told i.0 (H.state host.old) (H.state host.new) }
     ensures calls { H.told → moment (H.state host.new) ≤ moment (H.state host.old) + 4 }

@@ -1,4 +1,4 @@
-use Rattle.std.proofs.Common.{◌≡◌, ℕ, true, Some, OnOk, subst, arith}
+use Rattle.std.proofs.Common.{◌≡◌, ℕ, true, Some, None, OnOk, subst, arith}
 use Rattle.nn_host.specs.Disk.{certain}
 use Rattle.nn_base.specs.declared.sub.Sub.TheVariants.{Current}
 use Rattle.nn_base.specs.declared.file_name.FileName.TheVariants.{Seen, SeenTmp}
@@ -28,7 +28,7 @@ pub returns-clause-ok : goal.returns-clause-ok
 returns-clause-ok g c = λ tells. start_done c.in_ok-make_file.ensures c.in_ok-write_records.ensures.any_moment c.in_ok-write_records.ensures.ok
     (subst (λ (n : ℕ). OnlyAt g.H.Host.told c.args.i.0 (g.H.Host.state c.write_records.new.host) (g.H.Host.state c.write_seen.new.host) (OldOrNew Current SeenTmp Seen (seen_text_of n) (disk_at (g.H.Host.state c.write_records.new.host) c.args.i.0))) c.first.view_is c.write_seen.ensures.any_moment)
     c.write_seen.result tells
-    (subst (λ (n : ℕ). (disk_at (g.H.Host.state c.write_records.new.host) c.args.i.0).has Current ≡ true → OnOk c.write_seen.result ((disk_at (g.H.Host.state c.write_seen.new.host) c.args.i.0).file Current Seen ≡ certain (Some (seen_text_of n)))) c.first.view_is (c.write_seen.ensures.ok tells))
+    (subst (λ (n : ℕ). (disk_at (g.H.Host.state c.write_records.new.host) c.args.i.0).has Current ≡ true → OnOk c.write_seen.result (((disk_at (g.H.Host.state c.write_seen.new.host) c.args.i.0).file Current Seen ≡ certain (Some (seen_text_of n))) × ((disk_at (g.H.Host.state c.write_seen.new.host) c.args.i.0).file Current SeenTmp ≡ None))) c.first.view_is (c.write_seen.ensures.ok tells))
 
 pub returns-clause-any_moment : goal.returns-clause-any_moment
 returns-clause-any_moment g c = start_third c.in_ok-make_file.ensures c.in_ok-write_records.ensures.any_moment c.in_ok-write_records.ensures.ok

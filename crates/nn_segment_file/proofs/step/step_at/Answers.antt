@@ -1,7 +1,7 @@
 use Rattle.std.proofs.Common.{sym, ap, subst, arith}
 use Rattle.nn_host.specs.Moments.{disk_at}
 use Rattle.nn_host.specs.Runs.{OnlyAt}
-use Rattle.nn_base.specs.declared.file_name.FileName.TheVariants.{Seen}
+use Rattle.nn_base.specs.declared.file_name.FileName.TheVariants.{Seen, SeenTmp}
 use Rattle.nn_segment_file.specs.Log.{Beside}
 use Rattle.nn_segment_file.specs.Stages.{StepsAtAnyMoment, StepsInTurn, HasStepped, Touched, calls_of}
 use Rattle.nn_segment_file.specs.declared.step.Step.{Step}
@@ -17,7 +17,7 @@ returns-in-Start-clause-any_moment g c = subst (λ (s : Step). StepsAtAnyMoment 
 
 pub returns-in-Write-clause-ok : goal.returns-in-Write-clause-ok
 returns-in-Write-clause-ok g c = λ tells. subst (λ (s : Step). HasStepped c.args.i.0 s c.args.first.now c.args.bytes.now (g.H.Host.state c.args.host.now) (g.H.Host.state c.write_records.new.host) c.write_records.result) (sym c.in-Write.is)
-    (has_added c.args.i.0 c.args.first.now c.args.bytes.now (g.H.Host.state c.args.host.now) (g.H.Host.state c.write_records.new.host) c.write_records.result ((c.write_records.ensures.beside.ends tells).other_files Seen (λ e. cc)) (c.write_records.ensures.ok tells))
+    (has_added c.args.i.0 c.args.first.now c.args.bytes.now (g.H.Host.state c.args.host.now) (g.H.Host.state c.write_records.new.host) c.write_records.result ((c.write_records.ensures.beside.ends tells).other_files Seen (λ e. cc)) ((c.write_records.ensures.beside.ends tells).other_files SeenTmp (λ e. cc)) (c.write_records.ensures.ok tells))
 
 pub returns-in-Write-clause-any_moment : goal.returns-in-Write-clause-any_moment
 returns-in-Write-clause-any_moment g c = subst (λ (s : Step). StepsAtAnyMoment g.H.Host.told c.args.i.0 s c.args.first.now c.args.bytes.now (g.H.Host.state c.args.host.now) (g.H.Host.state c.write_records.new.host)) (sym c.in-Write.is) (adds c.write_records.ensures.any_moment)

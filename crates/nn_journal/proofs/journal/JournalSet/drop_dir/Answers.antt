@@ -9,4 +9,4 @@ pub returns-clause-last : goal.returns-clause-last
 returns-clause-last g c = omega (arith, c.rounds.ensures.ids, without_fewer c.args.self.now.live c.args.i.0 c.without-self.ensures c.requires.live)
 
 pub returns-clause-brought : goal.returns-clause-brought
-returns-clause-brought g c = record { rest = c.without-self.result; without = c.without-self.ensures; ahead = c.rounds.ensures.brought; ended = c.rounds.ensures.ended; went = c.rounds.ensures.went }
+returns-clause-brought g c = record { rest = c.without-self.result; without = c.without-self.ensures; ahead = c.rounds.ensures.brought; ended = c.rounds.ensures.ended; went = c.rounds.ensures.went; calls = c.rounds.ensures.calls }

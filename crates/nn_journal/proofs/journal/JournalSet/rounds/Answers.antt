@@ -22,4 +22,4 @@ pub returns-clause-ended : goal.returns-clause-ended
 returns-clause-ended g c = rounds_ended c.loop-again-test.false c.loop-again.invariant.rolling
 
 pub returns-clause-calls : goal.returns-clause-calls
-returns-clause-calls g c = λ tells same. rounds_calls c.loop-again-test.false c.loop-again.invariant.rolling tells same
+returns-clause-calls g c = rounds_calls c.loop-again-test.false c.loop-again.invariant.rolling

@@ -1,9 +1,8 @@
 use Rattle.std.proofs.Common.{inl, ◌∙◌, sym, ap, arith}
-use Rattle.nn_host.specs.Moments.{moment}
 use Rattle.nn_journal.specs.Places.{Place}
 use Rattle.nn_journal.proofs.BringsLemmas.{went_both, went_step}
 use Rattle.nn_journal.proofs.JournalLemmas.{start_of, ahead_of}
-use Rattle.nn_journal.proofs.RoundLemmas.{settled_ids, settled_since, settled_begins, settled_none}
+use Rattle.nn_journal.proofs.RoundLemmas.{settled_ids, settled_since, settled_begins, settled_none, settled_calls}
 use Rattle.nn_journal.proofs.journal.JournalSet.start_segment.Goals as goal
 
 pub returns-clause-brought : goal.returns-clause-brought
@@ -26,8 +25,4 @@ pub returns-clause-next : goal.returns-clause-next
 returns-clause-next g c = λ same. ap (λ (p : Place). p.last) (settled_none c.lacks-again.result 0 (λ is. inl (c.lacks-again.ensures.yes is)) (omega arith) c.start_all.ensures.stepped.counted c.settle.ensures.went.counted same c.settle.ensures.settled).0 ∙ c.start_all.ensures.place.2
 
 pub returns-clause-calls : goal.returns-clause-calls
-returns-clause-calls g c = λ tells same. omega (
-  arith,
-  c.start_all.ensures.stepped.calls tells,
-  ap moment (settled_none c.lacks-again.result 0 (λ is. inl (c.lacks-again.ensures.yes is)) (omega arith) c.start_all.ensures.stepped.counted c.settle.ensures.went.counted same c.settle.ensures.settled).2,
-)
+returns-clause-calls g c = settled_calls _ c.lacks-again.result c.start_all.ensures.stepped.calls c.start_all.ensures.stepped.counted c.lacks-again.ensures.yes c.settle.ensures.settled

@@ -1,10 +1,9 @@
 use Rattle.std.proofs.Common.{inl, inr, ⊎_elim, refl, ◌∙◌, ap, arith, vec_len, length}
-use Rattle.nn_host.specs.Moments.{moment}
 use Rattle.nn_journal.specs.Places.{Place, place_of}
 use Rattle.nn_journal.proofs.BringsLemmas.{empty_brings, went_refl, went_both, went_step}
 use Rattle.nn_journal.proofs.JournalLemmas.{write_of, logged_ahead_of, logged_finalizes}
 use Rattle.nn_journal.proofs.MarkLemmas.{empty_items, some_items}
-use Rattle.nn_journal.proofs.RoundLemmas.{settled_ids_more, settled_none}
+use Rattle.nn_journal.proofs.RoundLemmas.{settled_ids_more, settled_none, settled_calls, settled_calls_more}
 use Rattle.nn_journal.proofs.journal.JournalSet.sync.Goals as goal
 
 pub returns-clause-brought : goal.returns-clause-brought
@@ -15,11 +14,11 @@ pub returns-clause-last : goal.returns-clause-last
 returns-clause-last g c = omega (arith, settled_ids_more c.must_roll-again.result c.write_all.ensures.stepped.counted c.settle.ensures.settled, c.write_all.ensures.place.2)
 
 pub returns-clause-calls : goal.returns-clause-calls
-returns-clause-calls g c = λ tells same small. omega (
-  arith,
-  c.write_all.ensures.stepped.calls tells,
-  ap moment (settled_none c.must_roll-again.result c.write_all.new.self.size c.must_roll-again.ensures.yes (omega (arith, c.write_all.ensures.size, small)) c.write_all.ensures.stepped.counted c.settle.ensures.went.counted same c.settle.ensures.settled).2,
-)
+returns-clause-calls g c = λ small. settled_calls _ c.must_roll-again.result c.write_all.ensures.stepped.calls c.write_all.ensures.stepped.counted
+    (λ is. ⊎_elim (λ ne. ne) (λ full. absurd (omega (arith, full, small, c.write_all.ensures.size))) (c.must_roll-again.ensures.yes is)) c.settle.ensures.settled
+
+pub returns-clause-calls_full : goal.returns-clause-calls_full
+returns-clause-calls_full g c = λ tells. omega (arith, settled_calls_more _ c.must_roll-again.result c.write_all.ensures.stepped.calls c.write_all.ensures.stepped.counted c.settle.ensures.settled tells)
 
 pub returns-clause-went : goal.returns-clause-went
 returns-clause-went g c = went_both (went_step c.write_all.ensures.stepped) c.settle.ensures.went
