@@ -1,7 +1,3 @@
-pub mod BytesLemmas
-pub mod ReaderLemmas
-pub mod LinesLemmas
-pub mod LongLemmas
 pub mod DryLemmas
 pub mod CameLemmas
 pub mod ShortLemmas

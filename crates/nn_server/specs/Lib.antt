@@ -3,8 +3,6 @@ pub mod Came
 pub mod Lines
 pub mod States
 pub mod Format
-pub mod Reading
-pub mod Reader
 pub mod Scene
 pub mod Answered
 pub mod Dry

@@ -3,15 +3,15 @@ ghost use Rattle.std.specs.Prelude.{◌≡◌, []};
 ghost use Rattle.nn_base.specs.Limits.{most_script};
 ghost use Rattle.nn_script.specs.Answers.{first_state};
 ghost use Rattle.nn_server.specs.Scene.{scene};
-ghost use Rattle.nn_server.specs.Reader.{ahead, budget};
+ghost use Rattle.nn_reader.specs.Reader.{ahead, budget};
 ghost use Rattle.nn_server.specs.Came.{CameTo};
 ghost use Rattle.nn_server.specs.Codes.{dry_status};
 ghost use Rattle.nn_server.specs.Dry.{DryRan, dry_end};
 
-use crate::reader::{LineReader, Next};
 use crate::session::{Session, Unsaid};
 use nn_base::NoMemory;
 use nn_host::{Failed, Host, Source};
+use nn_reader::{LineReader, Next};
 use nn_tree::{PlainTree, Tree};
 use std::alloc::Global;
 

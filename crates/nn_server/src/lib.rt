@@ -5,7 +5,6 @@
 mod dry_run;
 mod format_run;
 mod laws;
-mod reader;
 mod session;
 mod state_run;
 mod status;
@@ -13,6 +12,5 @@ mod status;
 pub use dry_run::{DryEnd, dry};
 pub use format_run::{FormatEnd, format};
 pub use laws::answers_go_out_in_pieces;
-pub use reader::{LineReader, Next};
 pub use state_run::{StateEnd, state};
 pub use status::Status;

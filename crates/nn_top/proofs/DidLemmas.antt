@@ -48,16 +48,7 @@ state_on {a = a} {b = b} {c = c} end ran dirs = record {
 
 dry_on : {told told_source : Type 0} {script left : Bytes} {before after : ℕ} {a b c : State} {lines : Bytes} {trace : List Entry} (end : DryEnd) → DryRan told told_source script left before after a b lines trace end
     → TouchesNoDir told b c → DryRan told told_source script left before after a c lines trace end
-dry_on end ran dirs = record {
-  taken = ran.taken;
-  lines = ran.lines;
-  fits = ran.fits;
-  lines_are = ran.lines_are;
-  of_script = ran.of_script;
-  said = ran.said;
-  dirs = touched_on ran.dirs dirs;
-  counted = ran.counted;
-}
+dry_on end ran dirs = record { lines = ran.lines; read = ran.read; said = ran.said; dirs = touched_on ran.dirs dirs }
 
 -- ---- `format`
 

@@ -3,17 +3,16 @@ use Rattle.std.proofs.Common.{◌≡◌, ◌≢◌, ℕ, ◌+◌, ◌-◌, ◌<�
 use Rattle.std.specs.Prelude.{OnErr}
 use Rattle.std.specs.List.{position, slice_range}
 use Rattle.std.specs.Str.Lines.{strip_carriage_return}
-use Rattle.std.proofs.lemmas.List.{append-nil, length-take, length-take-le, take-append-le}
+use Rattle.std.proofs.lemmas.List.{append-nil, nil_from_length, length-take, length-take-le, take-append-le}
 use Rattle.std.proofs.lemmas.List.Elements.{All-append, All-nil}
 use Rattle.std.proofs.lemmas.Bool.Decides.{nat_tests}
 use Rattle.nn_base.specs.Paths.{Bytes}
 use Rattle.nn_host.specs.Sources.{Took}
-use Rattle.nn_server.specs.declared.reader.Next.TheVariants.{TooLong}
-use Rattle.nn_server.specs.Reading.{most_kept, front_of, kept_of, past_of, IsBehind}
-use Rattle.nn_server.specs.Reader.{EndedLine, IsNextLine, Stopped, PartRead, HasRead, Refilled}
+use Rattle.nn_reader.specs.declared.reader.Next.TheVariants.{TooLong}
+use Rattle.nn_reader.specs.Reading.{most_kept, front_of, kept_of, past_of, IsBehind}
+use Rattle.nn_reader.specs.Reader.{EndedLine, IsNextLine, Stopped, PartRead, HasRead, Refilled}
 use Rattle.nn_base.proofs.MarkLemmas.{split_at_mark, mark_within, no_mark_before, no_mark}
-use Rattle.nn_server.proofs.BytesLemmas.{is_newline, range_rest, front_front}
-use Rattle.nn_say.proofs.SayingLemmas.{no_bytes}
+use Rattle.nn_reader.proofs.BytesLemmas.{is_newline, range_rest, front_front}
 
 pub has_read_nothing : {told : Type 0} (before : Bytes) (budget : ℕ) (line : Bytes) → line ≡ [] → HasRead told before before budget budget line
 has_read_nothing before budget line e = record { body = []; unended = All-nil (λ byte. is_newline byte ≡ false); is = e ∙ front_nil; bytes = λ tells. refl; budget = omega arith }
@@ -63,7 +62,7 @@ kept_some {byte} {bytes} body e none = absurd (omega (arith, (length_kept most_k
 pub last_line : {told : Type 0} {before after : Bytes} {budget budget_after : ℕ} (line : Bytes)
     → HasRead told before after budget budget_after line → (told → after ≡ []) → IsNextLine told (kept_of line) before after budget budget_after line
 last_line [] so_far none = record {
-  bytes = λ tells. so_far.bytes tells ∙ (λ i. no_bytes so_far.body ((length_kept most_kept so_far.body [] (omega arith) so_far.is).0 refl) i ++ none tells i);
+  bytes = λ tells. so_far.bytes tells ∙ (λ i. nil_from_length so_far.body ((length_kept most_kept so_far.body [] (omega arith) so_far.is).0 refl) i ++ none tells i);
   none = none;
 }
 last_line (byte ∷ bytes) so_far none = record {

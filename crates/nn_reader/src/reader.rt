@@ -5,7 +5,7 @@ ghost use Rattle.std.specs.List.{position};
 ghost use Rattle.std.specs.Str.Lines.{strip_carriage_return};
 ghost use Rattle.nn_base.specs.Limits.{most_piece, most_script};
 ghost use Rattle.nn_host.specs.Calls.{next_count};
-ghost use Rattle.nn_server.specs.Reading.{most_kept, front_of, kept_of, past_of, IsBehind};
+ghost use Rattle.nn_reader.specs.Reading.{most_kept, front_of, kept_of, past_of, IsBehind};
 
 use nn_base::NoMemory;
 use nn_base::limits::{MOST_LINE, MOST_PIECE, MOST_SCRIPT};
@@ -46,7 +46,7 @@ pub struct LineReader {
 }
 
 impl LineReader {
-    ghost use Rattle.nn_server.specs.Reader.{ahead, budget, IsNextLine, PartRead, HasRead, Refilled, Stopped};
+    ghost use Rattle.nn_reader.specs.Reader.{ahead, budget, IsNextLine, PartRead, HasRead, Refilled, Stopped};
 
     /// A reader that has taken nothing. All the memory that it needs is taken here.
     pub fn new(alloc: Global) -> Result<LineReader, NoMemory>

@@ -1,7 +1,7 @@
 use Rattle.std.proofs.Common.{arith}
 use Rattle.std.proofs.lemmas.List.{length-take-le}
-use Rattle.nn_server.proofs.ReaderLemmas.{took_nothing, front_of_chunk}
-use Rattle.nn_server.proofs.reader.take_front.Goals as goal
+use Rattle.nn_reader.proofs.ReaderLemmas.{took_nothing, front_of_chunk}
+use Rattle.nn_reader.proofs.reader.take_front.Goals as goal
 
 pub returns-clause-ok : goal.returns-clause-ok
 returns-clause-ok g c = λ tells.

@@ -1,6 +1,6 @@
 use Rattle.std.proofs.Common.{get_or, arith}
-use Rattle.nn_server.proofs.ReaderLemmas.{took_nothing, took_one}
-use Rattle.nn_server.proofs.reader.one_more.Goals as goal
+use Rattle.nn_reader.proofs.ReaderLemmas.{took_nothing, took_one}
+use Rattle.nn_reader.proofs.reader.one_more.Goals as goal
 
 pub returns-then-count-eq0-clause-ok : goal.returns-then-count-eq0-clause-ok
 returns-then-count-eq0-clause-ok g c = (

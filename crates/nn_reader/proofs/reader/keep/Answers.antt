@@ -1,7 +1,7 @@
 use Rattle.std.proofs.Common.{◌≡◌, ◌-◌, min, ◌∙◌, ap, ◌++◌, take, length, arith}
-use Rattle.nn_server.specs.Reading.{most_kept}
-use Rattle.nn_server.proofs.BytesLemmas.{front_more}
-use Rattle.nn_server.proofs.reader.keep.Goals as goal
+use Rattle.nn_reader.specs.Reading.{most_kept}
+use Rattle.nn_reader.proofs.BytesLemmas.{front_more}
+use Rattle.nn_reader.proofs.reader.keep.Goals as goal
 
 pub returns-clause-line : goal.returns-clause-line
 returns-clause-line c =

@@ -11,7 +11,7 @@ use Rattle.nn_script.specs.Lines.{has_no_answer}
 use Rattle.nn_script.specs.Reading.{reading_of, command_on}
 use Rattle.nn_script.specs.Arguments.{◌>>=◌}
 use Rattle.nn_script.specs.declared.syntax.Syntax.TheVariants.{Long}
-use Rattle.nn_server.specs.Reading.{most_kept}
+use Rattle.nn_reader.specs.Reading.{most_kept}
 
 -- the front of a line begins as the line does
 begins_alike : (n : ℕ) (line : Bytes) → 0 < n → has_no_answer (take n line) ≡ has_no_answer line

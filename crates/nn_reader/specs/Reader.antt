@@ -3,10 +3,10 @@ use Rattle.std.specs.Prelude.{◌≡◌, ◌≢◌, ◌<◌, ◌≤◌, ◌+◌,
 use Rattle.std.specs.List.{slice_range}
 use Rattle.std.specs.Str.Lines.{strip_carriage_return}
 use Rattle.nn_base.specs.Paths.{Bytes}
-use Rattle.nn_server.specs.declared.reader.LineReader.{LineReader}
-use Rattle.nn_server.specs.declared.reader.Next.{Next}
-use Rattle.nn_server.specs.declared.reader.Next.TheVariants.{Line, Last, End, TooLong}
-use Rattle.nn_server.specs.Reading.{IsUnended, front_of}
+use Rattle.nn_reader.specs.declared.reader.LineReader.{LineReader}
+use Rattle.nn_reader.specs.declared.reader.Next.{Next}
+use Rattle.nn_reader.specs.declared.reader.Next.TheVariants.{Line, Last, End, TooLong}
+use Rattle.nn_reader.specs.Reading.{IsUnended, front_of}
 
 -- the bytes that were taken from the source and not yet read
 abbrev pub ahead : LineReader → Bytes

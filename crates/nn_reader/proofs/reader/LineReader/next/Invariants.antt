@@ -1,6 +1,6 @@
 use Rattle.std.proofs.Common.{◌≡◌, ◌++◌}
-use Rattle.nn_server.specs.Reader.{ahead, budget, HasRead}
-use Rattle.nn_server.proofs.reader.LineReader.next.Given as goal
+use Rattle.nn_reader.specs.Reader.{ahead, budget, HasRead}
+use Rattle.nn_reader.proofs.reader.LineReader.next.Given as goal
 
 abbrev pub invariant-parts : goal.invariant-parts
 invariant-parts g l = record {

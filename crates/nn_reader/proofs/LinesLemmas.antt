@@ -9,10 +9,10 @@ use Rattle.std.proofs.lemmas.Bool.{cases_lt}
 use Rattle.std.proofs.lemmas.Bool.Decides.{nat_tests}
 use Rattle.nn_base.specs.Paths.{Bytes}
 use Rattle.nn_script.specs.Lines.{lines_of, ended_lines, all_but_last}
-use Rattle.nn_server.specs.Reading.{IsUnended}
+use Rattle.nn_reader.specs.Reading.{IsUnended}
 use Rattle.nn_base.specs.Limits.{most_script}
-use Rattle.nn_server.specs.Dry.{due_lines}
-use Rattle.nn_server.proofs.BytesLemmas.{is_newline}
+use Rattle.nn_reader.specs.Script.{due_lines}
+use Rattle.nn_reader.proofs.BytesLemmas.{is_newline}
 
 -- these bytes are whole lines, so the parts of what follows are added to theirs
 pub record Ended (done : Bytes) (parts : List Bytes) : Type 0 where

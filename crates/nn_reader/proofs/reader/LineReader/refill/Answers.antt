@@ -1,9 +1,9 @@
 use Rattle.std.proofs.Common.{ℕ, ◌-◌, List, nat_lt, length, drop, sym, subst, arith}
 use Rattle.std.specs.List.{slice_range}
 use Rattle.std.proofs.lemmas.List.{take_at}
-use Rattle.nn_server.specs.Reader.{Refilled}
-use Rattle.nn_server.proofs.ReaderLemmas.{refilled}
-use Rattle.nn_server.proofs.reader.LineReader.refill.Goals as goal
+use Rattle.nn_reader.specs.Reader.{Refilled}
+use Rattle.nn_reader.proofs.ReaderLemmas.{refilled}
+use Rattle.nn_reader.proofs.reader.LineReader.refill.Goals as goal
 
 pub returns-clause-ok : goal.returns-clause-ok
 returns-clause-ok g c =

@@ -3,8 +3,8 @@ use Rattle.std.specs.Prelude.{◌≡◌, ◌==◌, ◌+◌, ℕ, Bool, true, fal
 use Rattle.std.specs.List.{All}
 use Rattle.nn_base.specs.Limits.{most_line}
 use Rattle.nn_base.specs.Paths.{Bytes}
-use Rattle.nn_server.specs.declared.reader.Next.{Next}
-use Rattle.nn_server.specs.declared.reader.Next.TheVariants.{Last, End, TooLong}
+use Rattle.nn_reader.specs.declared.reader.Next.{Next}
+use Rattle.nn_reader.specs.declared.reader.Next.TheVariants.{Last, End, TooLong}
 
 -- bytes without a newline
 abbrev pub IsUnended : Bytes → Type 0

@@ -1,7 +1,7 @@
 use Rattle.std.proofs.Common.{sym, ◌∙◌, ap, arith}
 use Rattle.std.specs.List.{slice_range}
-use Rattle.nn_server.proofs.ReaderLemmas.{part_ended, part_whole}
-use Rattle.nn_server.proofs.reader.LineReader.read_ahead.Goals as goal
+use Rattle.nn_reader.proofs.ReaderLemmas.{part_ended, part_whole}
+use Rattle.nn_reader.proofs.reader.LineReader.read_ahead.Goals as goal
 
 pub returns-in-Some-clause-read : goal.returns-in-Some-clause-read
 returns-in-Some-clause-read c =

@@ -1,8 +1,8 @@
 use Rattle.std.proofs.Common.{ℕ, ◌++◌, length, ap, sym, ◌∙◌, refl, subst, arith}
-use Rattle.nn_server.specs.declared.reader.Next.{Next}
-use Rattle.nn_server.specs.Reader.{ahead, budget, IsNextLine, Refilled}
-use Rattle.nn_server.proofs.ReaderLemmas.{has_read_more, has_read_on, ended_line, ended_as, last_line, past_room, stopped, on_err, never_past}
-use Rattle.nn_server.proofs.reader.LineReader.next.Goals as goal
+use Rattle.nn_reader.specs.declared.reader.Next.{Next}
+use Rattle.nn_reader.specs.Reader.{ahead, budget, IsNextLine, Refilled}
+use Rattle.nn_reader.proofs.ReaderLemmas.{has_read_more, has_read_on, ended_line, ended_as, last_line, past_room, stopped, on_err, never_past}
+use Rattle.nn_reader.proofs.reader.LineReader.next.Goals as goal
 
 pub returns-then-read_ahead-clause-ok : goal.returns-then-read_ahead-clause-ok
 returns-then-read_ahead-clause-ok g c =

@@ -1,0 +1,5 @@
+pub mod BytesLemmas
+pub mod ReaderLemmas
+pub mod LinesLemmas
+pub mod LongLemmas
+pub mod ScriptLemmas
