@@ -11,12 +11,16 @@ use nn_pick::Refusal;
 pub enum Status {
     /// The work was done, and the input read to its end.
     Ok,
+    /// The same of a run over directories, whose last segment was ended.
+    Stopped,
     /// The words of the command line have no reading.
     Usage,
     /// The command is refused, and nothing was changed.
     Refused(Refusal),
     /// A call on this directory failed.
     HostFault(DirNo),
+    /// A run over directories has none left: on each of them a call failed.
+    NoneLeft,
     /// A call of the source of the script failed.
     SourceFault,
     /// The script has more than 2^26 bytes.
@@ -33,10 +37,11 @@ impl Status {
         ensures { result ≡ code_of self }
     {
         match self {
-            Status::Ok => 0,
+            Status::Ok | Status::Stopped => 0,
             Status::Usage => 1,
             Status::Refused(_) => 2,
             Status::HostFault(_) => 3,
+            Status::NoneLeft => 4,
             Status::SourceFault => 5,
             Status::ScriptTooLong => 6,
             Status::Memory => 7,

@@ -39,9 +39,11 @@ closes_silent = record { dirs = touched_refl; ends = inl (refl, refl, refl) }
 -- no other is without one
 pub closes_unsaid : (told : Type 0) (a : State) (status : Status) → last_call status ≡ [] → Closing told a a status status
 closes_unsaid told a outcome.Ok none = closes_done
+closes_unsaid told a outcome.Stopped none = cc none
 closes_unsaid told a outcome.Usage none = cc none
 closes_unsaid told a (outcome.Refused refusal) none = cc none
 closes_unsaid told a (outcome.HostFault i) none = cc none
+closes_unsaid told a outcome.NoneLeft none = cc none
 closes_unsaid told a outcome.SourceFault none = cc none
 closes_unsaid told a outcome.ScriptTooLong none = cc none
 closes_unsaid told a outcome.Memory none = cc none
@@ -50,9 +52,11 @@ closes_unsaid told a outcome.OutFault none = closes_silent
 -- where there is one, the output didn't fail before it
 pub is_unfailed : (status : Status) → last_call status ≡ Say (last_line status) ∷ [] → is_out_fault status ≡ false
 is_unfailed outcome.Ok call = refl
+is_unfailed outcome.Stopped call = refl
 is_unfailed outcome.Usage call = refl
 is_unfailed (outcome.Refused refusal) call = refl
 is_unfailed (outcome.HostFault i) call = refl
+is_unfailed outcome.NoneLeft call = refl
 is_unfailed outcome.SourceFault call = refl
 is_unfailed outcome.ScriptTooLong call = refl
 is_unfailed outcome.Memory call = refl

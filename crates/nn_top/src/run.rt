@@ -116,7 +116,9 @@ fn plain_line(status: Status) -> Option<&'static [u8]>
 {
     match status {
         Status::Ok | Status::OutFault => None,
+        Status::Stopped => Some(b"stopped\n"),
         Status::Usage => Some(b"usage\n"),
+        Status::NoneLeft => Some(b"none left\n"),
         Status::SourceFault => Some(b"source fault\n"),
         Status::ScriptTooLong => Some(b"script too long\n"),
         Status::Memory => Some(b"no memory\n"),
