@@ -9,7 +9,7 @@ use std::test::Fail;
 use std::{fs, process};
 
 // A call on the one directory, and what it holds afterwards. INPROGRESS and EDITS stand for the names of segments.
-const CHANGES: [(&str, &str); 38] = [
+static CHANGES: [(&str, &str); 38] = [
     ("settle", ""),
     ("file current VERSION", ""),
     ("make current", "current"),
@@ -107,11 +107,16 @@ const CHANGES: [(&str, &str); 38] = [
     ("drop previous", ""),
 ];
 
+// The table, by reference: a function that named it would be proved with each of its rows.
+fn changes() -> &'static [(&'static str, &'static str)] {
+    &CHANGES
+}
+
 #[test]
 fn each_change_leaves_what_its_row_says(rt: HostRuntime) -> Result<(), Fail> {
     let root = made_root(&rt, rt.alloc(), "changes", process::id(rt.process()))?;
     let mut host = host_of(&rt, rt.alloc(), root.as_str())?;
-    for (call, after) in CHANGES {
+    for &(call, after) in changes() {
         let outcome = act(&rt, &mut host, call);
         assert!(rt; outcome.is_ok(), "{call}");
         let found = shown(&rt, rt.alloc(), &mut host)?;
@@ -122,7 +127,7 @@ fn each_change_leaves_what_its_row_says(rt: HostRuntime) -> Result<(), Fail> {
 }
 
 // Nothing stands in the directory but what a row names, and no call changes it.
-const ABSENT: [&str; 9] = [
+static ABSENT: [&str; 9] = [
     "make current",
     "file current VERSION",
     "append current VERSION abc",
@@ -134,13 +139,17 @@ const ABSENT: [&str; 9] = [
     "settle",
 ];
 
+fn absent() -> &'static [&'static str] {
+    &ABSENT
+}
+
 #[test]
 fn a_missing_root_is_no_fault(rt: HostRuntime) -> Result<(), Fail> {
     let root = made_root(&rt, rt.alloc(), "absent", process::id(rt.process()))?;
     rt.remove_dir_all(rt.alloc(), root.as_str())?;
     for path in [root.as_str(), ""] {
         let mut host = host_of(&rt, rt.alloc(), path)?;
-        for call in ABSENT {
+        for &call in absent() {
             let outcome = act(&rt, &mut host, call);
             assert!(rt; outcome.is_ok(), "{call}");
         }
@@ -199,7 +208,7 @@ fn another_thing_under_a_name_counts_as_absent(rt: HostRuntime) -> Result<(), Fa
 }
 
 // Each form of a file name, in the byte order of the texts.
-const FORMS: [&str; 14] = [
+static FORMS: [&str; 14] = [
     "VERSION",
     "VERSION.tmp",
     "edits_0000000000000000001-0000000000000000002",
@@ -216,7 +225,11 @@ const FORMS: [&str; 14] = [
     "seen_txid.tmp",
 ];
 
-const OTHERS: [&str; 6] = [
+fn forms() -> &'static [&'static str] {
+    &FORMS
+}
+
+static OTHERS: [&str; 6] = [
     "version",
     "fsimage_1",
     "edits_0000000000000000002-0000000000000000001",
@@ -225,11 +238,15 @@ const OTHERS: [&str; 6] = [
     ".hidden",
 ];
 
+fn others() -> &'static [&'static str] {
+    &OTHERS
+}
+
 #[test]
 fn a_listing_has_each_form_in_order_and_nothing_else(rt: HostRuntime) -> Result<(), Fail> {
     let root = made_root(&rt, rt.alloc(), "listing", process::id(rt.process()))?;
     fs::create_dir(&rt, format!(in rt.alloc(); "{root}/kept")?.as_str())?;
-    for name in FORMS.iter().rev() {
+    for name in forms().iter().rev() {
         write(
             &rt,
             rt.alloc(),
@@ -238,7 +255,7 @@ fn a_listing_has_each_form_in_order_and_nothing_else(rt: HostRuntime) -> Result<
             "",
         )?;
     }
-    for name in OTHERS {
+    for &name in others() {
         write(
             &rt,
             rt.alloc(),
@@ -256,9 +273,9 @@ fn a_listing_has_each_form_in_order_and_nothing_else(rt: HostRuntime) -> Result<
     let mut host = host_of(&rt, rt.alloc(), root.as_str())?;
     let mut names = Vec::new(rt.alloc());
     list(&rt, &mut host, Sub::Current, &mut names)?;
-    assert_eq!(rt; names.len(), FORMS.len());
-    for (name, form) in names.iter().zip(FORMS) {
-        assert_eq!(rt; text_of(rt.alloc(), *name)?.as_str(), form);
+    assert_eq!(rt; names.len(), forms().len());
+    for (name, form) in names.iter().zip(forms()) {
+        assert_eq!(rt; text_of(rt.alloc(), *name)?.as_str(), *form);
     }
     rt.remove_dir_all(rt.alloc(), root.as_str())?;
     Ok(())

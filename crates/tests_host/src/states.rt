@@ -11,7 +11,7 @@ const DIR: DirNo = DirNo(0);
 
 // The folders that hold a VERSION, the name of the state by Hadoop's Storage.analyzeStorage or why there is none, and the
 // folders that serve as current and as previous.
-const ROWS: [(&[Sub], &str, Option<Sub>, Option<Sub>); 17] = [
+static ROWS: [(&[Sub], &str, Option<Sub>, Option<Sub>); 17] = [
     (&[], "NOT_FORMATTED", None, None),
     (&[Sub::Current], "NORMAL", Some(Sub::Current), None),
     (
@@ -91,11 +91,16 @@ const ROWS: [(&[Sub], &str, Option<Sub>, Option<Sub>); 17] = [
     ),
 ];
 
+// The table, by reference: a function that named it would be proved with each of its rows.
+fn rows() -> &'static [(&'static [Sub], &'static str, Option<Sub>, Option<Sub>)] {
+    &ROWS
+}
+
 #[test]
 fn the_folders_of_a_directory_name_its_state_and_those_that_serve(
     rt: HostRuntime,
 ) -> Result<(), Fail> {
-    for (subs, name, current, previous) in ROWS {
+    for &(subs, name, current, previous) in rows() {
         let mut host = holding(&rt, rt.alloc(), subs)?;
         assert!(rt; 0 < host.count());
         let seven = look(&mut host, DIR)?;

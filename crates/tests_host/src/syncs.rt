@@ -11,7 +11,7 @@ use std::test::Fail;
 
 // The calls before, one of them each line, the call, and its changes and syncs. A name that was changed is followed by the
 // sync of the folder that holds it; `.` is the directory itself.
-const ROWS: [(&str, &str, &str); 24] = [
+static ROWS: [(&str, &str, &str); 24] = [
     ("", "make current", "mkdir current, fsync ."),
     ("make current", "make current", ""),
     ("", "file current VERSION", ""),
@@ -95,12 +95,17 @@ const ROWS: [(&str, &str, &str); 24] = [
     ),
 ];
 
+// The table, by reference: a function that named it would be proved with each of its rows.
+fn rows() -> &'static [(&'static str, &'static str, &'static str)] {
+    &ROWS
+}
+
 #[test]
 fn a_changed_name_is_synced_with_its_folder_before_the_call_returns(
     rt: HostRuntime,
 ) -> Result<(), Fail> {
     let process = process::id(rt.process());
-    for (before, call, wanted) in ROWS {
+    for &(before, call, wanted) in rows() {
         let (calls, outcome) = recorded(&rt, rt.alloc(), process, (before, call), usize::MAX)?;
         assert!(rt; outcome.is_ok(), "{call}");
         assert_eq!(rt; calls.as_str(), wanted, "{call}");
@@ -111,7 +116,7 @@ fn a_changed_name_is_synced_with_its_folder_before_the_call_returns(
 #[test]
 fn a_change_or_sync_that_fails_fails_the_call_and_is_its_last(rt: HostRuntime) -> Result<(), Fail> {
     let process = process::id(rt.process());
-    for (before, call, wanted) in ROWS {
+    for &(before, call, wanted) in rows() {
         let count = match wanted.is_empty() {
             true => 0,
             false => wanted.split(", ").count(),
