@@ -1,5 +1,5 @@
 -- How the process ends, from the status of the run.
-use Rattle.std.proofs.Common.{◌≡◌, Some, inl, inr, ℕ, List, [], length, refl, ap, subst}
+use Rattle.std.proofs.Common.{◌≡◌, Some, inl, inr, ℕ, List, [], length, ap, subst}
 use Rattle.nn_base.specs.Paths.{Bytes}
 use Rattle.nn_host.specs.Moments.{State}
 use Rattle.nn_files.specs.Untold.{unfailed_state}
@@ -26,14 +26,10 @@ counts_alone left faults before after old new Dry status did = record {
   lines = did.lines;
   trace = did.trace;
   ran = record {
-    taken = did.ran.taken;
     lines = did.ran.lines;
-    fits = did.ran.fits;
-    lines_are = did.ran.lines_are;
-    of_script = λ never. absurd never;
+    read = record { taken = did.ran.read.taken; fits = did.ran.read.fits; lines_are = did.ran.read.lines_are; of_script = λ never. absurd never; counted = did.ran.read.counted };
     said = did.ran.said;
     dirs = did.ran.dirs;
-    counted = did.ran.counted;
   };
   closes = did.closes;
 }
