@@ -1,1 +1,4 @@
 pub mod OpenedLemmas
+pub mod StoppedLemmas
+pub mod EndedLemmas
+pub mod ServedLemmas

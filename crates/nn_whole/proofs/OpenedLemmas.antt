@@ -57,10 +57,10 @@ says_upgraded asked ctime book = record { text = upgraded_line (max asked.at (ct
 abbrev says_started : Opening → Book → Answered
 says_started opened book = record { text = started_line opened.last; book = book }
 
-abbrev HasText : Answered → Type 0
+abbrev pub HasText : Answered → Type 0
 HasText a = a.text ≢ []
 
-abbrev HasBook : Book → Answered → Type 0
+abbrev pub HasBook : Book → Answered → Type 0
 HasBook book a = a.book ≡ book
 
 started_text : (opened : Opening) (book : Book) → All HasText (says_started opened book ∷ [])

@@ -1,1 +1,4 @@
 pub mod Opened
+pub mod Served
+pub mod Ended
+pub mod Stopped

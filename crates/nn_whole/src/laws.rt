@@ -1,5 +1,8 @@
 // What follows from the definitions of a run alone, for the calls that make a whole one: no call does anything here.
 ghost use Rattle.nn_whole.specs.Opened.{SharedAtFirst, StartIsOfRun, OpeningIsSaid};
+ghost use Rattle.nn_whole.specs.Ended.{EndedOpens};
+ghost use Rattle.nn_whole.specs.Stopped.{EntryIsLeft, RunKeptLeaves};
+ghost use Rattle.nn_whole.specs.Served.{FirstIsSaid, NextIsSaid, ServingNext};
 
 /// Sound directories share something with which a run can begin, so no claim of a run needs one of the caller's.
 pub fn sound_directories_share()
@@ -14,4 +17,34 @@ pub fn a_start_is_of_its_run()
 /// While it is said that a run has started each moment is kept, where all directories are live.
 pub fn an_opening_is_said()
     ensures { OpeningIsSaid }
+{}
+
+/// Once all lines are answered, every choice of what reads with a directory of the run opens to the Book after them.
+pub fn done_work_opens()
+    ensures { EndedOpens }
+{}
+
+/// A stop before the first change leaves what a stop at entry could leave.
+pub fn a_stop_at_entry_is_told()
+    ensures { EntryIsLeft }
+{}
+
+/// What each moment of a run keeps is what a stop leaves of it.
+pub fn a_kept_run_leaves_so()
+    ensures { RunKeptLeaves }
+{}
+
+/// A run that has said its opening has said nothing else.
+pub fn the_opening_is_what_was_said()
+    ensures { FirstIsSaid }
+{}
+
+/// With one line more that is answered, it has said the answers to that too, and seen the directories as they were.
+pub fn the_next_line_is_said()
+    ensures { NextIsSaid }
+{}
+
+/// Each moment of the next line is kept, however its step ended.
+pub fn the_next_line_is_served()
+    ensures { ServingNext }
 {}

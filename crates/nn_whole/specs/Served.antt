@@ -1,0 +1,67 @@
+-- What holds as so many lines of a run are answered: what was said, which directories are live, what was seen, and what was kept.
+use Rattle.std.specs.Prelude.{◌≡◌, ◌⊎◌, ℕ, ◌-◌, ◌^◌, ◌<◌, ◌≤◌, Bool, true, List, [], ◌∷◌, ◌++◌, length, take}
+use Rattle.nn_base.specs.Paths.{Bytes}
+use Rattle.nn_host.specs.Moments.{Moment, State, faults_at}
+use Rattle.nn_host.specs.Runs.{Throughout, Unspoken}
+use Rattle.nn_pick.specs.Opening.{Opening}
+use Rattle.nn_run.specs.Running.{Running, Asked, SeeLive, reply_at, after_asked}
+use Rattle.nn_run.specs.Window.{text_of, said_since}
+use Rattle.nn_run.specs.Course.{RunAsked, first_of, opening_of, answers_of}
+use Rattle.nn_run.specs.Steps.{StepKept, HasAnswered}
+use Rattle.nn_run.specs.Flights.{OnlySays}
+use Rattle.nn_run.specs.Loop.{KeptSoFar}
+
+-- ---- what was seen
+
+-- At this moment, if a part of the answer to a line was said, the counts are those that were seen at it.
+abbrev pub IsSeenAt : (List Asked → Bytes) → List Asked → State → Moment → Type 0
+IsSeenAt answers reached old m = (before : List Asked) (asked : Asked) (later : List Asked) → reached ≡ before ++ asked ∷ later
+    → length (answers before) < length (said_since old m) → length (said_since old m) < length (answers (before ++ asked ∷ [])) → (i : ℕ) → (m.dirs i).faults ≡ asked.sight.faults i
+
+-- Lines were seen truly: live are just those directories that hadn't failed since the run began, by the counts at which the answer was said.
+pub record SeenTruly (answers : List Asked → Bytes) (reached : List Asked) (old new : State) : Type 0 where
+  pub live : SeeLive old.count (λ i. faults_at old i) reached
+  pub at : Throughout (Unit {0}) old new (IsSeenAt answers reached old)
+
+-- ---- what so many answered lines have come to
+
+-- what was said, whatever the directories held
+pub record HasSaid (asked : RunAsked) (ctime : ℕ) (opened : Opening) (live : ℕ → Bool) (done : List Asked) (old s : State) : Type 0 where
+  pub said : s.now.said ≡ old.now.said ++ answers_of asked old.count ctime opened done
+  pub fronts : Throughout (Unit {0}) old s (λ m. length (said_since old m) ≤ length (answers_of asked old.count ctime opened done))
+  pub grown : (i : ℕ) → faults_at old i ≤ faults_at s i
+  pub counted : (i : ℕ) → i < old.count → faults_at old i < 2 ^ 64 - 1 → live i ≡ true → faults_at s i ≡ faults_at old i
+  pub alive : (i : ℕ) → i < old.count → faults_at old i < 2 ^ 64 - 1 → faults_at s i ≡ faults_at old i → live i ≡ true
+  pub seen : SeenTruly (answers_of asked old.count ctime opened) done old s
+
+-- at each moment a front of this text was said, and only once the directories were as at the end
+abbrev pub SaysLast : Bytes → State → State → Type 0
+SaysLast text old new = Throughout (Unit {0}) old new (λ m. ((n : ℕ) × (m.said ≡ old.now.said ++ take n text)) × ((m.said ≡ old.now.said) ⊎ (m.dirs ≡ new.now.dirs)))
+
+-- a run that has said its opening behind a start in which no count rose
+abbrev pub FirstIsSaid : Type 0
+FirstIsSaid = (asked : RunAsked) (ctime : ℕ) (opened : Opening) (live : ℕ → Bool) (old s new : State) → ((i : ℕ) → i < old.count → live i ≡ true) → ((i : ℕ) → faults_at s i ≡ faults_at old i)
+    → Unspoken (Unit {0}) old s → OnlySays (Unit {0}) (text_of (opening_of asked ctime opened)) s new → new.now.said ≡ s.now.said ++ text_of (opening_of asked ctime opened)
+    → HasSaid asked ctime opened live [] old new
+
+-- and one line more was answered, in which no count fell and no directory became live
+abbrev pub NextIsSaid : Type 0
+NextIsSaid = (asked : RunAsked) (ctime : ℕ) (opened : Opening) (live live_after : ℕ → Bool) (done : List Asked) (next : Asked) (after : Running) (old s new : State)
+    → HasSaid asked ctime opened live done old s → HasAnswered (Unit {0}) old.count (after_asked old.count (first_of asked opened) done) after live live_after next s new
+    → SaysLast (reply_at old.count (after_asked old.count (first_of asked opened) done) next).text s new
+    → ((i : ℕ) → faults_at s i ≤ faults_at new i) → ((i : ℕ) → i < old.count → live_after i ≡ true → (live i ≡ true) × (faults_at new i ≡ faults_at s i))
+    → HasSaid asked ctime opened live_after (done ++ next ∷ []) old new × (after ≡ after_asked old.count (first_of asked opened) (done ++ next ∷ []))
+
+-- ---- what the loop carries besides, of sound directories
+
+-- Each moment was kept so far, whatever will be seen at the lines to come; and those that had a saved state ahead and haven't failed are holders.
+pub record Serving (asked : RunAsked) (ctime : ℕ) (opened : Opening) (ahead live holders : ℕ → Bool) (done : List Asked) (rest : List Bytes) (old s : State) : Type 0 where
+  pub said : HasSaid asked ctime opened live done old s
+  pub held : (i : ℕ) → i < old.count → ahead i ≡ true → faults_at s i ≡ faults_at old i → holders i ≡ true
+  pub kept : KeptSoFar asked ctime opened ahead done rest old s
+
+-- Then it was so too at each moment of the next line, however its step ended.
+abbrev pub ServingNext : Type 0
+ServingNext = (asked : RunAsked) (ctime : ℕ) (opened : Opening) (ahead live holders : ℕ → Bool) (done : List Asked) (next : Asked) (rest : List Bytes) (old s new : State) → 1 ≤ asked.batch
+    → Serving asked ctime opened ahead live holders done (next.line ∷ rest) old s → StepKept (Unit {0}) old.count (after_asked old.count (first_of asked opened) done) live holders next s new
+    → KeptSoFar asked ctime opened ahead (done ++ next ∷ []) rest old new
