@@ -48,13 +48,13 @@ pub record IsOpening (opening : List Answered) (book : Book) : Type 0 where
   pub texts : All (λ a. a.text ≢ []) (first ∷ others)
   pub books : All (λ a. a.book ≡ book) (first ∷ others)
 
-abbrev upgrading : RunAsked → Bool → RunAsked
+abbrev pub upgrading : RunAsked → Bool → RunAsked
 upgrading asked upgrade = record { upgrade = upgrade; at = asked.at; batch = asked.batch }
 
-abbrev says_upgraded : RunAsked → ℕ → Book → Answered
+abbrev pub says_upgraded : RunAsked → ℕ → Book → Answered
 says_upgraded asked ctime book = record { text = upgraded_line (max asked.at (ctime + 1)); book = book }
 
-abbrev says_started : Opening → Book → Answered
+abbrev pub says_started : Opening → Book → Answered
 says_started opened book = record { text = started_line opened.last; book = book }
 
 abbrev pub HasText : Answered → Type 0

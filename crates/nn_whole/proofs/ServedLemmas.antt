@@ -37,7 +37,7 @@ last_split (d ∷ done) x (z ∷ before) y later e =
 -- ---- texts
 
 -- the texts of some commands and then others
-text_append : (first later : List Answered) → text_of (first ++ later) ≡ text_of first ++ text_of later
+pub text_append : (first later : List Answered) → text_of (first ++ later) ≡ text_of first ++ text_of later
 text_append first later = flat_map-append (λ (a : Answered). a.text) first later
 
 one_text : (count : ℕ) (run : Running) (asked : Asked) → text_of (commands_of count run (asked ∷ [])) ≡ (reply_at count run asked).text
@@ -79,7 +79,7 @@ after_append count run (line ∷ done) next = after_append count (reply_at count
 none_there : {A : Type 0} (before : List A) (y : A) (later : List A) → [] ≡ before ++ y ∷ later → ⊥
 none_there before y later e = absurd (omega (arith, ap length e, length-append before (y ∷ later)))
 
-since_said : (old : State) (m : Moment) (text : Bytes) → m.said ≡ old.now.said ++ text → said_since old m ≡ text
+pub since_said : (old : State) (m : Moment) (text : Bytes) → m.said ≡ old.now.said ++ text → said_since old m ≡ text
 since_said old m text e = ap (drop (length old.now.said)) e ∙ drop-append_seam old.now.said text
 
 nothing_since : (old : State) (m : Moment) → m.said ≡ old.now.said → length (said_since old m) ≡ 0

@@ -1,4 +1,5 @@
 pub mod Opened
 pub mod Served
+pub mod Closed
 pub mod Ended
 pub mod Stopped

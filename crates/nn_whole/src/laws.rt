@@ -1,5 +1,6 @@
 // What follows from the definitions of a run alone, for the calls that make a whole one: no call does anything here.
 ghost use Rattle.nn_whole.specs.Opened.{SharedAtFirst, StartIsOfRun, OpeningIsSaid};
+ghost use Rattle.nn_whole.specs.Closed.{ClosingAnswersNone, EarlyAnswersNone, ClosedIsKept, EarlyIsKept};
 ghost use Rattle.nn_whole.specs.Ended.{EndedOpens};
 ghost use Rattle.nn_whole.specs.Stopped.{EntryIsLeft, RunKeptLeaves};
 ghost use Rattle.nn_whole.specs.Served.{FirstIsSaid, NextIsSaid, ServingNext};
@@ -17,6 +18,26 @@ pub fn a_start_is_of_its_run()
 /// While it is said that a run has started each moment is kept, where all directories are live.
 pub fn an_opening_is_said()
     ensures { OpeningIsSaid }
+{}
+
+/// No last line of a run that has started has an answer to a line in it.
+pub fn a_closing_line_answers_nothing()
+    ensures { ClosingAnswersNone }
+{}
+
+/// No last line of a run that has not started says that it has.
+pub fn an_early_line_answers_nothing()
+    ensures { EarlyAnswersNone }
+{}
+
+/// A run that was kept until its last line is kept while that is said.
+pub fn a_run_that_is_closed_is_kept()
+    ensures { ClosedIsKept }
+{}
+
+/// So is one that ends before it has started.
+pub fn a_run_that_never_started_is_kept()
+    ensures { EarlyIsKept }
 {}
 
 /// Once all lines are answered, every choice of what reads with a directory of the run opens to the Book after them.
