@@ -65,7 +65,7 @@ module _ (asked : RunAsked) (count ctime : ℕ) (opened : Opening) where
   answers_next done next = answers_append done (next ∷ []) ∙ ap (λ t. answers done ++ t) (one_text count (run_at done) next)
 
   -- more lines have no shorter answers
-  answers_longer : (before : List Asked) (line : Asked) (rest : List Asked) → length (answers (before ++ line ∷ [])) ≤ length (answers (before ++ line ∷ rest))
+  pub answers_longer : (before : List Asked) (line : Asked) (rest : List Asked) → length (answers (before ++ line ∷ [])) ≤ length (answers (before ++ line ∷ rest))
   answers_longer before line rest =
       let joined : answers (before ++ line ∷ rest) ≡ answers ((before ++ line ∷ []) ++ rest) = ap answers (sym (append_assoc before (line ∷ []) rest)) in
       omega (arith, ap length (joined ∙ answers_append (before ++ line ∷ []) rest), length-append (answers (before ++ line ∷ [])) (text_of (commands_of count (run_at (before ++ line ∷ [])) rest)))

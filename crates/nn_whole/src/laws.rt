@@ -1,5 +1,6 @@
 // What follows from the definitions of a run alone, for the calls that make a whole one: no call does anything here.
 ghost use Rattle.nn_whole.specs.Opened.{SharedAtFirst, StartIsOfRun, OpeningIsSaid};
+ghost use Rattle.nn_whole.specs.Leaving.{AreTheLines, MoreIsSaid, EndingIsKept};
 ghost use Rattle.nn_whole.specs.Closed.{ClosingAnswersNone, EarlyAnswersNone, ClosedIsKept, EarlyIsKept};
 ghost use Rattle.nn_whole.specs.Ended.{EndedOpens};
 ghost use Rattle.nn_whole.specs.Stopped.{EntryIsLeft, RunKeptLeaves};
@@ -68,4 +69,19 @@ pub fn the_next_line_is_said()
 /// Each moment of the next line is kept, however its step ended.
 pub fn the_next_line_is_served()
     ensures { ServingNext }
+{}
+
+/// Lines that were not reached are lines of the script with any sight.
+pub fn unreached_lines_are_the_lines()
+    ensures { AreTheLines }
+{}
+
+/// What was seen at answered lines was seen truly, whatever else is said behind their answers.
+pub fn what_was_seen_stays_so()
+    ensures { MoreIsSaid }
+{}
+
+/// While its last segment is ended a run is kept.
+pub fn a_run_that_is_ended_is_kept()
+    ensures { EndingIsKept }
 {}
