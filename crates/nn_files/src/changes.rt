@@ -45,6 +45,16 @@ impl<'a, R: Files> Place<'a, R> {
         self.sync_sub(sub)
     }
 
+    /// As `rename_file`, of a file that was open until now: one that isn't there any more was taken away by someone else,
+    /// with what was written to it.
+    pub fn rename_written(&self, sub: Sub, from: &FileName, to: &FileName) -> io::Result<()> {
+        let path = self.file_path(sub, from)?;
+        if !self.is_file(path.as_str())? {
+            return Err(ErrorKind::NotFound.into());
+        }
+        self.rename_file(sub, from, to)
+    }
+
     pub fn rename_sub(&self, from: Sub, to: Sub) -> io::Result<()> {
         let from = self.sub_path(from)?;
         if !self.is_folder(from.as_str())? {

@@ -174,9 +174,12 @@ impl<R: Files + Print + Drop> Host for FileHost<R> {
         from: FileName,
         to: FileName,
     ) -> Result<(), Failed> {
-        segment::close_file(&mut self.segments[i.0 as usize], sub, &from);
+        let was_open = segment::close_file(&mut self.segments[i.0 as usize], sub, &from);
         segment::close_file(&mut self.segments[i.0 as usize], sub, &to);
-        let done = self.place(i).rename_file(sub, &from, &to);
+        let done = match was_open {
+            true => self.place(i).rename_written(sub, &from, &to),
+            false => self.place(i).rename_file(sub, &from, &to),
+        };
         self.counted(i, done)
     }
 

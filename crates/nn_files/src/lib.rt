@@ -7,8 +7,10 @@ mod host;
 mod listing;
 mod looks;
 mod paths;
+mod reserved;
 mod segment;
 mod source;
 
 pub use host::FileHost;
+pub use reserved::Reserved;
 pub use source::StdSource;

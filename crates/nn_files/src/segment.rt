@@ -20,13 +20,15 @@ impl<F> Segment<F> {
     }
 }
 
-/// Closes the segment if it is this file.
-pub fn close_file<F: Drop>(segment: &mut Option<Segment<F>>, sub: Sub, name: &FileName) {
+/// Closes the segment if it is this file, and says whether it was.
+pub fn close_file<F: Drop>(segment: &mut Option<Segment<F>>, sub: Sub, name: &FileName) -> bool {
     if let Some(open) = segment
         && open.is(sub, name)
     {
         *segment = None;
+        return true;
     }
+    false
 }
 
 /// Closes the segment if it is in this subfolder.

@@ -1,9 +1,10 @@
 // A runtime whose standard input is interrupted, refused and short.
-use nn_files::StdSource;
+use nn_files::{Reserved, StdSource};
 use nn_host::{Failed, Source};
 use std::alloc::Allocator;
 use std::io;
 use std::io::{BufRead, ErrorKind, Lines, Read};
+use std::test::Fail;
 
 #[derive(Drop)]
 struct Shaky;
@@ -65,4 +66,10 @@ fn only_a_refused_read_fails_and_the_next_one_goes_on(rt: HostRuntime) {
         assert_eq!(rt; source.take(&mut out), answer);
         assert_eq!(rt; out, held);
     }
+}
+
+#[test]
+fn files_stand_in_for_an_input_and_an_output_that_are_closed(rt: HostRuntime) -> Result<(), Fail> {
+    let _reserved = Reserved::open(&rt)?;
+    Ok(())
 }

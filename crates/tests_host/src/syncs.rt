@@ -131,6 +131,31 @@ fn a_change_or_sync_that_fails_fails_the_call_and_is_its_last(rt: HostRuntime) -
     Ok(())
 }
 
+#[test]
+fn a_segment_that_someone_took_away_fails_as_it_gets_its_last_name(
+    rt: HostRuntime,
+) -> Result<(), Fail> {
+    let root = made_root(&rt, rt.alloc(), "taken", process::id(rt.process()))?;
+    let mut host = host_of(&rt, rt.alloc(), root.as_str())?;
+    // One that is open is missed, and one that the host never had is none.
+    for (before, answer) in [
+        ("append current INPROGRESS one", Err(Failed)),
+        ("sync current INPROGRESS", Ok(())),
+    ] {
+        for call in ["make current", "file current INPROGRESS", before] {
+            act(&rt, &mut host, call)?;
+        }
+        rt.remove_dir_all(
+            rt.alloc(),
+            format!(in rt.alloc(); "{root}/current")?.as_str(),
+        )?;
+        let outcome = act(&rt, &mut host, "rename current INPROGRESS EDITS");
+        assert_eq!(rt; outcome, answer, "{before}");
+    }
+    rt.remove_dir_all(rt.alloc(), root.as_str())?;
+    Ok(())
+}
+
 // The changes and syncs of a call after those before it, in a folder of its own, and its answer. So many are done before one
 // fails.
 fn recorded<R: Files + Env + Alloc + Abort + Print>(
