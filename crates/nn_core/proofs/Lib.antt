@@ -1,4 +1,5 @@
 pub mod FlownLemmas
 pub mod StandLemmas
 pub mod CallsLemmas
+pub mod SpokenLemmas
 pub mod StepLemmas

@@ -13,10 +13,11 @@ use Rattle.nn_ops.specs.Step.{Fits}
 use Rattle.nn_ops.specs.Effects.{effect}
 use Rattle.nn_segment_file.specs.Log.{Shared, AgreeTo}
 use Rattle.nn_segment_file.specs.Stages.{Stage, Ended, Going, last_of}
-use Rattle.nn_journal.specs.Among.{AllAt}
+use Rattle.nn_journal.specs.Among.{AllAt, AllAlone}
 use Rattle.nn_journal.specs.declared.journal.JournalSet.{JournalSet}
 use Rattle.nn_journal.specs.Places.{Place, place_of, Matches, IsInProgress, IsSteady, HasCome, BringsAhead, BringsLoggedAhead}
 use Rattle.nn_journal.specs.Logging.{one_more, next_record}
+use Rattle.nn_journal.proofs.CarriedLemmas.{carried_alone}
 use Rattle.nn_journal.proofs.LoggingLemmas.{logging_goes_on, longer_list_keeps}
 use Rattle.nn_pick.specs.Refusing.{spent_from}
 use Rattle.nn_pick.specs.Opening.{Book}
@@ -25,7 +26,7 @@ use Rattle.nn_kept.specs.Ends.{EndsAt, EndsBetween}
 use Rattle.nn_kept.proofs.KeptEndsLemmas.{left_behind_is_kept}
 use Rattle.nn_run.specs.Steps.{BetweenLines}
 use Rattle.nn_run.specs.Flights.{Flies, Flown, LeadsTo}
-use Rattle.nn_core.specs.Standing.{unsaved, Stands, Comes}
+use Rattle.nn_core.specs.Standing.{unsaved, GoesFrom, NoneGoes, Stands, Comes}
 use Rattle.nn_core.proofs.FlownLemmas.{flown_of}
 
 -- ---- lists
@@ -99,7 +100,7 @@ starts_at version list count live ns last from s same between j below e =
 module _ {told : Type 0} (tells : told) (version : Version) (list : Shared) (from : Stage) (journal after : JournalSet) (holders live : Members) (ns ns_after : Namespace) (below : ℕ) (a b : State)
     (come : HasCome told version list from (place_of after) below holders live after.live a b) (low : below < after.last) (same_live : live ≡ journal.live) (last : journal.last ≡ last_of from)
     (among : (j : ℕ) → has journal.live j ≡ true → j < a.count) (before : BetweenLines version list a.count (has journal.live) (λ i. false) (unsaved ns) journal.last a.now)
-    (leads : LeadsTo list (unsaved ns) (unsaved ns_after) journal.last after.last) where
+    (leads : LeadsTo list (unsaved ns) (unsaved ns_after) journal.last after.last) (alone : AllAlone from live a) where
   after_last : after.last ≡ last_of come.to
   after_last = stage_last version list come.to (place_of after) come.matches
 
@@ -119,6 +120,7 @@ module _ {told : Type 0} (tells : told) (version : Version) (list : Shared) (fro
         (subst (λ (k : ℕ). Flown (Unit {0}) version list (has live) (has after.live) (last_of from) k a b) (sym after_last) flight));
     matches = come.matches;
     disks = come.carried.stands tells;
+    alone = carried_alone come.carried tells alone;
   }
 
 -- marks of segments alone: the list is steady
@@ -127,7 +129,7 @@ pub rolls_by : {told : Type 0} (journal after : JournalSet) (a b : State) → Br
 rolls_by {told} journal after a b brought among rose room tells ns stands =
     let it = brought stands.version stands.list stands.stage stands.matches (λ t. stands.disks) in
     comes_by tells stands.version stands.list stands.stage journal after journal.holders journal.live ns ns it.0 a b it.2 it.1 refl (stage_last stands.version stands.list stands.stage (place_of journal) stands.matches) among stands.between
-    (record { unsaved = refl; unsaved_after = refl; between = λ n least most. inl (steady n least); ends = steady after.last (omega (arith, rose)); room = room })
+    (record { unsaved = refl; unsaved_after = refl; between = λ n least most. inl (steady n least); ends = steady after.last (omega (arith, rose)); room = room }) stands.alone
   where
     is_steady : (stage : Stage) → Matches stands.version stands.list stage (place_of journal) → IsSteady stands.list journal.last
     is_steady (Ended end) is = subst (IsSteady stands.list) (sym is.last) is.steady
@@ -159,7 +161,7 @@ module _ {told : Type 0} (journal logged after : JournalSet) (op : Op) (a b : St
   same_text = is.text ∙ ap (λ x. x ++ spelling (next_record (place_of journal) op)) empty
 
   module _ (version : Version) (list : Shared) (base : ℕ) (kept : List Record) (matches : IsInProgress version list base kept [] [] (place_of journal)) (disks : AllAt version list (Going base kept) journal.live a)
-      (between : BetweenLines version list a.count (has journal.live) (λ i. false) (unsaved ns) journal.last a.now) where
+      (alone : AllAlone (Going base kept) journal.live a) (between : BetweenLines version list a.count (has journal.live) (λ i. false) (unsaved ns) journal.last a.now) where
     abbrev longer : Shared
     longer = longer_by list journal.last (effect op ns)
 
@@ -196,10 +198,28 @@ module _ {told : Type 0} (journal logged after : JournalSet) (op : Op) (a b : St
           ends = behind after.last (omega (arith, onward, is.last));
           room = room;
         })
+        (subst (λ (set : Members). AllAlone (Going base kept) set a) (sym is.live) alone)
 
   pub logs_by : journal.going ≡ true → Stands journal ns a → Comes journal after ns (effect op ns) a b
-  logs_by going stands = by stands.stage stands.matches stands.disks
+  logs_by going stands = by stands.stage stands.matches stands.disks stands.alone
     where
-      by : (stage : Stage) → Matches stands.version stands.list stage (place_of journal) → AllAt stands.version stands.list stage journal.live a → Comes journal after ns (effect op ns) a b
-      by (Ended end) ended disks = absurd (let apart = sym going ∙ ended.going in cc)
-      by (Going base kept) matches disks = going_comes stands.version stands.list base kept matches disks stands.between
+      by : (stage : Stage) → Matches stands.version stands.list stage (place_of journal) → AllAt stands.version stands.list stage journal.live a → AllAlone stage journal.live a → Comes journal after ns (effect op ns) a b
+      by (Ended end) ended disks alone = absurd (let apart = sym going ∙ ended.going in cc)
+      by (Going base kept) matches disks alone = going_comes stands.version stands.list base kept matches disks alone stands.between
+
+-- ---- the segments of the live directories
+
+-- where one is in progress, it is the only one, and seen_txid holds its first id
+pub going_from : (version : Version) (list : Shared) (stage : Stage) (journal : JournalSet) (s : State) → Matches version list stage (place_of journal) → AllAt version list stage journal.live s → AllAlone stage journal.live s → journal.going ≡ true
+    → (j : ℕ) → has journal.live j ≡ true → GoesFrom journal.first (disk_at s j)
+going_from version list (Ended end) journal s matches disks alone going j e = absurd (let apart = sym going ∙ matches.going in cc)
+going_from version list (Going base kept) journal s matches disks alone going j e =
+    let is = disks j e in
+    subst (λ (first : ℕ). GoesFrom first (disk_at s j)) (sym matches.first)
+    (record { file = is.writes.file; stands = is.writes.stands; others = λ other ranged differs. alone j e other ranged differs; seen = is.seen })
+
+-- where none is, there is none
+pub going_none : (version : Version) (list : Shared) (stage : Stage) (journal : JournalSet) (s : State) → Matches version list stage (place_of journal) → AllAlone stage journal.live s → journal.going ≡ false
+    → (j : ℕ) → has journal.live j ≡ true → NoneGoes (disk_at s j)
+going_none version list (Ended end) journal s matches alone closed j e = λ first ranged. alone j e first ranged (λ begun. begun)
+going_none version list (Going base kept) journal s matches alone closed j e = absurd (let apart = sym closed ∙ matches.going in cc)

@@ -1,30 +1,30 @@
 -- What an event does: its answer, which directories are live then, and what each moment of it keeps.
-use Rattle.std.specs.Prelude.{◌≡◌, ℕ, ◌+◌, ◌*◌, ◌≤◌, true, false, [], ◌∷◌, Some, Ok, Err, Option, Result, OnOk, IfErr}
-use Rattle.nn_base.specs.DirSets.{Members, has, count_of}
-use Rattle.nn_base.specs.Limits.{most_record}
+use Rattle.std.specs.Prelude.{◌≡◌, ◌⊎◌, ℕ, true, false, [], ◌∷◌, ◌++◌, take, Some, Ok, Err, Option, Result, OnOk, OnErr, IfErr}
+use Rattle.nn_base.specs.DirSets.{Members, has}
 use Rattle.nn_base.specs.Paths.{Bytes}
-use Rattle.nn_host.specs.Moments.{State, moment, faults_at}
+use Rattle.nn_host.specs.Moments.{State, disk_at, faults_at}
 use Rattle.nn_host.specs.Calls.{next_count}
-use Rattle.nn_host.specs.Runs.{Throughout, Unspoken}
+use Rattle.nn_host.specs.Runs.{Throughout, Unspoken, OutWhole, SilentAfter}
 use Rattle.nn_host.specs.declared.host.Failed.{Failed}
 use Rattle.nn_tree.specs.Namespace.{Namespace}
 use Rattle.nn_script.specs.declared.command.ScriptCommand.{ScriptCommand}
-use Rattle.nn_script.specs.declared.command.ScriptCommand.TheVariants.{Namespace as Change, Roll}
 use Rattle.nn_script.specs.declared.syntax.Syntax.{Syntax}
 use Rattle.nn_script.specs.declared.answer.Answer.TheVariants.{Unread}
 use Rattle.nn_script.specs.Reading.{IsInRange, reading_of}
 use Rattle.nn_script.specs.Spelling.{IsSaid}
 use Rattle.nn_journal.specs.declared.journal.JournalSet.{JournalSet}
-use Rattle.nn_journal.specs.Places.{full_segment}
+use Rattle.nn_journal.specs.Among.{EachCounted, LeavesAlone}
+use Rattle.nn_journal.specs.Places.{Went}
 use Rattle.nn_kept.specs.Laws.{KeptInto}
-use Rattle.nn_run.specs.Running.{Running, Asked}
-use Rattle.nn_run.specs.Steps.{StepKept, HasAnswered, IsLiveAfter, is_of_step}
+use Rattle.nn_run.specs.Running.{Running, Asked, reply_at}
+use Rattle.nn_run.specs.Steps.{StepKept, HasAnswered, is_of_step}
 use Rattle.nn_core.specs.declared.event.Event.{Event}
 use Rattle.nn_core.specs.declared.event.Event.TheVariants.{Line, Bad}
 use Rattle.nn_core.specs.declared.event.End.{End}
 use Rattle.nn_core.specs.declared.event.End.TheVariants.{NoneLeft, Memory, OutFault}
 use Rattle.nn_core.specs.Ready.{IsReady}
-use Rattle.nn_core.specs.Standing.{unsaved, Stands, HasIds}
+use Rattle.nn_core.specs.Standing.{unsaved, Stands, NoneGoes, HasIds}
+use Rattle.nn_core.specs.Written.{IsChange, Writes, HasWritten}
 
 -- ---- events
 
@@ -61,17 +61,46 @@ Keeps told reading journal count ns time live_after old new = told → HasIds jo
 abbrev pub StaysStanding : Type 0 → JournalSet → JournalSet → Namespace → Namespace → State → State → Type 0
 StaysStanding told journal after ns ns_after old new = told → HasIds journal → Stands journal ns old → Stands after ns_after new
 
+-- ---- which directories are live
+
+abbrev pub HasLive : JournalSet → Type 0
+HasLive journal = (j : ℕ) × (has journal.live j ≡ true)
+
+-- a call on each live directory failed, and none is live any more
+abbrev pub AllFailed : JournalSet → JournalSet → State → State → Type 0
+AllFailed journal after old new = (j : ℕ) → (has after.live j ≡ false) × (has journal.live j ≡ true → faults_at new j ≡ next_count (faults_at old j))
+
+-- Each directory is live where it was and no call on it failed; one that wasn't live isn't touched, nor is one in which a call has failed. Once it was answered one is live, where one was or something was to be written.
+pub record HasDropped (told : Type 0) (reading : Result (Option ScriptCommand) Syntax) (ns : Namespace) (journal after : JournalSet) (old new : State) (result : Result (Unit {0}) End) : Type 0 where
+  pub counted : EachCounted journal.live journal.live after.live old new
+  pub left : LeavesAlone told journal.live old new
+  pub some : OnOk result (HasLive journal ⊎ Writes reading ns → HasLive after)
+
+-- ---- what goes out
+
+-- Whichever line it is, at each moment a front of its answer was said, and that only once the directories are as at the end.
+abbrev pub Speaks : Type 0 → Result (Option ScriptCommand) Syntax → ℕ → Running → Members → State → State → Type 0
+Speaks told reading count run live_after old new = (line : Bytes) → reading_of line ≡ reading
+    → Throughout told old new (λ m. ((n : ℕ) × (m.said ≡ old.now.said ++ take n (reply_at count run (asked_at line live_after new)).text)) × ((m.said ≡ old.now.said) ⊎ (m.dirs ≡ new.now.dirs)))
+
+-- the output didn't fail
+abbrev pub GoesOut : Type 0 → State → State → Type 0
+GoesOut told old new = OutWhole told old new × (new.now.out_faults ≡ old.now.out_faults)
+
+-- the output failed where that ended the run, and then nothing more was said; else it didn't
+abbrev pub OutBy : Type 0 → Result (Unit {0}) End → State → State → Type 0
+OutBy told (Ok done) old new = GoesOut told old new
+OutBy told (Err NoneLeft) old new = GoesOut told old new
+OutBy told (Err Memory) old new = GoesOut told old new
+OutBy told (Err OutFault) old new = SilentAfter told old new × (new.now.out_faults ≡ next_count old.now.out_faults)
+
 -- ---- why it ended a run
 
--- a command, which alone may meet want of memory
-abbrev pub IsChange : Result (Option ScriptCommand) Syntax → Type 0
-IsChange reading = (it : _) × (reading ≡ Ok (Some (Change it)))
-
--- No live directory is left, since each has failed, and nothing was said. Or there was no memory for a command, and nothing has changed. Or the output failed.
-abbrev pub EndsBy : End → Result (Option ScriptCommand) Syntax → JournalSet → JournalSet → Running → Running → State → State → Type 0
-EndsBy NoneLeft reading journal after run run_after old new = ((j : ℕ) → has journal.live j ≡ true → faults_at new j ≡ next_count (faults_at old j)) × (new.now.out_faults ≡ old.now.out_faults) × (new.now.said ≡ old.now.said)
-EndsBy Memory reading journal after run run_after old new = IsChange reading × (new ≡ old) × (after ≡ journal) × (run_after ≡ run)
-EndsBy OutFault reading journal after run run_after old new = new.now.out_faults ≡ next_count old.now.out_faults
+-- No directory is left, since each live one has failed, and nothing was said. Or there was no memory for a command, and nothing has changed. Or the output failed.
+abbrev pub EndsBy : Type 0 → End → Result (Option ScriptCommand) Syntax → JournalSet → JournalSet → Running → Running → State → State → Type 0
+EndsBy told NoneLeft reading journal after run run_after old new = AllFailed journal after old new × Unspoken told old new × (run_after ≡ run)
+EndsBy told Memory reading journal after run run_after old new = IsChange reading × (new ≡ old) × (after ≡ journal) × (run_after ≡ run)
+EndsBy told OutFault reading journal after run run_after old new = Unit {0}
 
 -- the output failed over an answer, or it was said
 abbrev pub unless_failed : Result (Unit {0}) Failed → Result (Unit {0}) End
@@ -89,14 +118,12 @@ pub record HasStepped (told : Type 0) (reading : Result (Option ScriptCommand) S
   -- and the directories stand so that the next one may come
   pub stands : OnOk result (StaysStanding told journal after ns ns_after old new)
   pub ready : IsReady after count new
+  pub wrote : HasWritten told reading ns journal after old new result
+  pub live : HasDropped told reading ns journal after old new result
+  pub spoken : Speaks told reading count (running ns time) after.live old new
+  pub out : OutBy told result old new
   -- why it ended the run
-  pub ended : IfErr result (λ end. EndsBy end reading journal after (running ns time) (running ns_after time_after) old new)
-  -- how many ids it gave
-  pub last : after.last + 2 * count_of after.live ≤ journal.last + 3 + 2 * count_of journal.live
-  -- how many calls a command took, where none was dropped and the segment has room: two for each live directory, and one for the answer
-  pub calls : told → IsChange reading → after.live ≡ journal.live → journal.size + most_record ≤ full_segment → moment new ≤ moment old + 2 * count_of journal.live + 1
-  -- once a roll was answered, the segment in progress begins with the last id
-  pub begins : reading ≡ Ok (Some Roll) → OnOk result (after.first ≡ after.last)
+  pub ended : IfErr result (λ end. EndsBy told end reading journal after (running ns time) (running ns_after time_after) old new)
 
 -- ---- the end
 
@@ -105,10 +132,12 @@ abbrev pub EndKeeps : Type 0 → JournalSet → ℕ → Namespace → State → 
 EndKeeps told journal count ns old new = told → HasIds journal → Stands journal ns old
     → Throughout (Unit {0}) old new (KeptInto (λ _. unsaved ns ∷ []) count (λ _. is_of_step (has journal.live) old) (λ _. is_of_step (has journal.live) old))
 
--- The segment in progress was ended in each live directory: nothing was said, each is live where it was and no call on it failed, and they stand as before.
-pub record HasEnded (told : Type 0) (count : ℕ) (ns : Namespace) (journal after : JournalSet) (old new : State) : Type 0 where
+-- The segment in progress was ended in each live directory: nothing was said, each is live where it was and no call on it failed, they stand as before, and none has a segment in progress.
+pub record HasEnded {E : Type 0} (told : Type 0) (count : ℕ) (ns : Namespace) (journal after : JournalSet) (old new : State) (result : Result (Unit {0}) E) : Type 0 where
   pub kept : EndKeeps told journal count ns old new
   pub stands : StaysStanding told journal after ns ns old new
-  pub counted : IsLiveAfter count (has journal.live) (has after.live) old new
-  pub quiet : Unspoken told old new
+  pub went : Went told journal.live after.live old new
+  pub some : OnOk result (HasLive after)
+  pub failed : OnErr result (AllFailed journal after old new)
   pub closed : after.going ≡ false
+  pub ended : told → HasIds journal → Stands journal ns old → (j : ℕ) → has after.live j ≡ true → NoneGoes (disk_at new j)

@@ -1,3 +1,4 @@
 pub mod Ready
 pub mod Standing
+pub mod Written
 pub mod Events

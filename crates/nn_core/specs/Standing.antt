@@ -1,8 +1,13 @@
 -- When directories stand as a run has them in mind, and how records bring them on.
-use Rattle.std.specs.Prelude.{◌+◌, ◌<◌, false, None}
+use Rattle.std.specs.Prelude.{◌≡◌, ◌≢◌, ℕ, ◌+◌, ◌<◌, false, Some, None}
+use Rattle.nn_base.specs.declared.sub.Sub.TheVariants.{Current}
+use Rattle.nn_base.specs.declared.file_name.FileName.TheVariants.{Seen, InProgress}
+use Rattle.nn_base.specs.FileText.{IsInRange}
 use Rattle.nn_base.specs.DirSets.{has}
+use Rattle.nn_host.specs.Disk.{Disk, File, certain}
 use Rattle.nn_host.specs.Moments.{State}
 use Rattle.nn_marks.specs.declared.version.Version.{Version}
+use Rattle.nn_marks.specs.Seen.{seen_text_of}
 use Rattle.nn_tree.specs.Namespace.{Namespace}
 use Rattle.nn_record.specs.declared.op.Op.{Op}
 use Rattle.nn_ops.specs.Step.{Fits}
@@ -10,7 +15,7 @@ use Rattle.nn_ops.specs.Effects.{effect}
 use Rattle.nn_segment_file.specs.Log.{Shared}
 use Rattle.nn_segment_file.specs.Stages.{Stage}
 use Rattle.nn_journal.specs.declared.journal.JournalSet.{JournalSet}
-use Rattle.nn_journal.specs.Among.{AllAt}
+use Rattle.nn_journal.specs.Among.{AllAt, AllAlone}
 use Rattle.nn_journal.specs.Places.{Matches, place_of}
 use Rattle.nn_pick.specs.Refusing.{spent_from}
 use Rattle.nn_pick.specs.Opening.{Book}
@@ -21,14 +26,30 @@ use Rattle.nn_run.specs.Flights.{Flown, LeadsTo}
 abbrev pub unsaved : Namespace → Book
 unsaved ns = record { ns = ns; saved = None }
 
--- Nothing is saved. Each live directory has what the journal has in mind, and they stand as is to hold between two lines.
+-- Nothing is saved. Each live directory has what the journal has in mind, with no other segment in progress, and they stand as is to hold between two lines.
 pub record Stands (journal : JournalSet) (ns : Namespace) (s : State) : Type 0 where
   pub version : Version
   pub list : Shared
   pub stage : Stage
   pub matches : Matches version list stage (place_of journal)
   pub disks : AllAt version list stage journal.live s
+  pub alone : AllAlone stage journal.live s
   pub between : BetweenLines version list s.count (has journal.live) (λ i. false) (unsaved ns) journal.last s.now
+
+-- ---- the segments of one directory
+
+-- The segment in progress begins with this id, no other is in progress, and seen_txid holds this id.
+pub record GoesFrom (first : ℕ) (d : Disk) : Type 0 where
+  pub file : File
+  pub stands : d.file Current (InProgress first) ≡ Some file
+  pub others : (other : ℕ) → IsInRange (InProgress other) → other ≢ first → d.file Current (InProgress other) ≡ None
+  pub seen : d.file Current Seen ≡ certain (Some (seen_text_of first))
+
+-- no segment is in progress
+abbrev pub NoneGoes : Disk → Type 0
+NoneGoes d = (first : ℕ) → IsInRange (InProgress first) → d.file Current (InProgress first) ≡ None
+
+-- ---- how records bring them on
 
 -- The live directories came from one namespace to another: each moment of it, by a list that leads from the one to the other, and what they have then.
 pub record Comes (journal after : JournalSet) (ns ns_after : Namespace) (old new : State) : Type 0 where
@@ -40,6 +61,7 @@ pub record Comes (journal after : JournalSet) (ns ns_after : Namespace) (old new
   pub flown : Flown (Unit {0}) version list (has journal.live) (has after.live) journal.last after.last old new
   pub matches : Matches version list stage (place_of after)
   pub disks : AllAt version list stage after.live new
+  pub alone : AllAlone stage after.live new
 
 -- so high an id leaves room for a step
 abbrev pub HasIds : JournalSet → Type 0

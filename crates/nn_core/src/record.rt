@@ -27,6 +27,7 @@ pub(crate) fn write_record<H: Host>(
     ensures last { journal.new.last + 2 * count_of journal.new.live ≤ journal.old.last + 3 + 2 * count_of journal.old.live }
     ensures calls { H.told → journal.new.live ≡ journal.old.live → journal.old.size + most_record ≤ full_segment →
         moment (H.state host.new) ≤ moment (H.state host.old) + 2 * count_of journal.old.live }
+    ensures adds { journal.new.live ≡ journal.old.live → journal.old.size + most_record ≤ full_segment → (journal.new.last ≡ journal.old.last + 1) × (journal.new.first ≡ journal.old.first) }
     ensures left { OnErr result ((j : ℕ) → has journal.new.live j ≡ false) }
     ensures some { OnOk result ((j : ℕ) × (has journal.new.live j ≡ true)) }
 {

@@ -98,9 +98,7 @@ impl<T: Tree> Core<T> {
     pub fn end<H: Host>(&mut self, host: &mut H) -> Result<(), NoneLeft>
         requires ready { IsReady self.old.journal self.old.count (H.state host.old) }
         requires ids { self.old.journal.last + 128 < 2 ^ 63 }
-        ensures ended { HasEnded H.told self.old.count (T.meaning self.old.tree) self.old.journal self.new.journal (H.state host.old) (H.state host.new) }
-        ensures left { OnErr result ((j : ℕ) → has self.new.journal.live j ≡ false) }
-        ensures some { OnOk result ((j : ℕ) × (has self.new.journal.live j ≡ true)) }
+        ensures ended { HasEnded H.told self.old.count (T.meaning self.old.tree) self.old.journal self.new.journal (H.state host.old) (H.state host.new) result }
         ensures kept { (self.new.count ≡ self.old.count) × (T.meaning self.new.tree ≡ T.meaning self.old.tree) × (self.new.time ≡ self.old.time) }
     {
         close_segment(&mut self.journal, host)
