@@ -6,3 +6,4 @@ pub mod AnswerLemmas
 pub mod LastLemmas
 pub mod ClosedLemmas
 pub mod LeavingLemmas
+pub mod CountedLemmas

@@ -6,21 +6,21 @@ use Rattle.std.proofs.lemmas.Grind.{flat_map-append}
 use Rattle.nn_base.specs.Paths.{Bytes}
 use Rattle.nn_host.specs.Moments.{Dir, Moment, State, faults_at}
 use Rattle.nn_host.specs.Runs.{Throughout}
-use Rattle.nn_host.proofs.RunsLemmas.{throughout_both, throughout_trans, throughout_weaker}
+use Rattle.nn_host.proofs.RunsLemmas.{throughout_refl, throughout_both, throughout_trans, throughout_weaker}
 use Rattle.nn_pick.specs.Opening.{Opening}
 use Rattle.nn_script.specs.Lines.{has_no_answer}
 use Rattle.nn_run.specs.Running.{Running, Asked, SeesLive, reply_at, reply_read, after_asked}
 use Rattle.nn_run.specs.Window.{Answered, commands_of, text_of, said_since}
-use Rattle.nn_run.specs.Course.{RunAsked, first_of, opening_of, answers_of}
+use Rattle.nn_run.specs.Course.{RunAsked, first_of, opening_of, answers_of, course_of, RunKept}
 use Rattle.nn_run.specs.Steps.{HasAnswered}
 use Rattle.nn_run.proofs.LineLemmas.{read_none, commands_append}
 use Rattle.nn_run.proofs.LoopLemmas.{next_is_kept}
-use Rattle.nn_whole.specs.Served.{IsSeenAt, HasSaid, SaysLast, FirstIsSaid, NextIsSaid, ServingNext}
+use Rattle.nn_whole.specs.Served.{IsSeenAt, HasSaid, SaysLast, FirstIsSaid, NextIsSaid, ServingNext, SilentIsSaid, ServingSilent}
 
 -- ---- lists with one more
 
 -- where a list and one more is split, the place is in the list or it is that one
-last_split : {A : Type 0} (done : List A) (x : A) (before : List A) (y : A) (later : List A) → done ++ x ∷ [] ≡ before ++ y ∷ later
+pub last_split : {A : Type 0} (done : List A) (x : A) (before : List A) (y : A) (later : List A) → done ++ x ∷ [] ≡ before ++ y ∷ later
     → ((before ≡ done) × (y ≡ x)) ⊎ ((rest : List A) × (done ≡ before ++ y ∷ rest))
 last_split [] x [] y later e = inl (refl, cc e)
 last_split [] x (z ∷ []) y later e = absurd (omega (arith, ap length e))
@@ -203,3 +203,24 @@ serving_next asked ctime opened ahead live holders done next rest old s new leas
       alive = λ i below same room. serving.said.alive i below room same;
       held = serving.held;
     }) serving.kept step
+
+-- ---- a line without an answer
+
+pub silent_is_said : SilentIsSaid
+silent_is_said asked ctime opened live done next old s none sees_live sees_faults has =
+    let run = after_asked old.count (first_of asked opened) done in
+    let text : (reply_at old.count run next).text ≡ [] = ap (λ r. (reply_read old.count run next.sight r).text) (read_none next.line none) in
+    let after : (reply_at old.count run next).after ≡ run = ap (λ r. (reply_read old.count run next.sight r).after) (read_none next.line none) in
+    let answered : HasAnswered (Unit {0}) old.count run run live live next s s = record {
+      said = λ t. sym (ap (λ x. s.now.said ++ x) text ∙ append-nil s.now.said);
+      goes_on = sym after;
+      counted = λ i below room. (λ e. (refl, e), λ both. both.1);
+      sees_live = sees_live;
+      sees_faults = sees_faults;
+    } in
+    let both = next_is_said asked ctime opened live live done next run old s s has answered (throughout_refl (λ t. ((0, sym (append-nil s.now.said)), inl refl))) (λ i. omega arith) (λ i below e. (e, refl)) in
+    (both.0, sym both.1)
+
+pub serving_silent : ServingSilent
+serving_silent asked ctime opened ahead done next rest old s kept later lines =
+    subst (λ l. RunKept (Unit {0}) (course_of asked old.count ctime opened l ahead) old s) (sym (append_assoc done (next ∷ []) later)) (kept (next ∷ later) (ap (λ l. next.line ∷ l) lines))

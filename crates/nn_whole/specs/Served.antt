@@ -4,6 +4,7 @@ use Rattle.nn_base.specs.Paths.{Bytes}
 use Rattle.nn_host.specs.Moments.{Moment, State, faults_at}
 use Rattle.nn_host.specs.Runs.{Throughout, Unspoken}
 use Rattle.nn_pick.specs.Opening.{Opening}
+use Rattle.nn_script.specs.Lines.{has_no_answer}
 use Rattle.nn_run.specs.Running.{Running, Asked, SeeLive, reply_at, after_asked}
 use Rattle.nn_run.specs.Window.{text_of, said_since}
 use Rattle.nn_run.specs.Course.{RunAsked, first_of, opening_of, answers_of}
@@ -52,6 +53,12 @@ NextIsSaid = (asked : RunAsked) (ctime : ℕ) (opened : Opening) (live live_afte
     → ((i : ℕ) → faults_at s i ≤ faults_at new i) → ((i : ℕ) → i < old.count → live_after i ≡ true → (live i ≡ true) × (faults_at new i ≡ faults_at s i))
     → HasSaid asked ctime opened live_after (done ++ next ∷ []) old new × (after ≡ after_asked old.count (first_of asked opened) (done ++ next ∷ []))
 
+-- a line without an answer changes nothing
+abbrev pub SilentIsSaid : Type 0
+SilentIsSaid = (asked : RunAsked) (ctime : ℕ) (opened : Opening) (live : ℕ → Bool) (done : List Asked) (next : Asked) (old s : State) → has_no_answer next.line ≡ true
+    → ((i : ℕ) → next.sight.live i ≡ live i) → ((i : ℕ) → next.sight.faults i ≡ faults_at s i) → HasSaid asked ctime opened live done old s
+    → HasSaid asked ctime opened live (done ++ next ∷ []) old s × (after_asked old.count (first_of asked opened) (done ++ next ∷ []) ≡ after_asked old.count (first_of asked opened) done)
+
 -- ---- what the loop carries besides, of sound directories
 
 -- Each moment was kept so far, whatever will be seen at the lines to come; and those that had a saved state ahead and haven't failed are holders.
@@ -65,3 +72,8 @@ abbrev pub ServingNext : Type 0
 ServingNext = (asked : RunAsked) (ctime : ℕ) (opened : Opening) (ahead live holders : ℕ → Bool) (done : List Asked) (next : Asked) (rest : List Bytes) (old s new : State) → 1 ≤ asked.batch
     → Serving asked ctime opened ahead live holders done (next.line ∷ rest) old s → StepKept (Unit {0}) old.count (after_asked old.count (first_of asked opened) done) live holders next s new
     → KeptSoFar asked ctime opened ahead (done ++ next ∷ []) rest old new
+
+-- So it is at a line in which nothing happens.
+abbrev pub ServingSilent : Type 0
+ServingSilent = (asked : RunAsked) (ctime : ℕ) (opened : Opening) (ahead : ℕ → Bool) (done : List Asked) (next : Asked) (rest : List Bytes) (old s : State)
+    → KeptSoFar asked ctime opened ahead done (next.line ∷ rest) old s → KeptSoFar asked ctime opened ahead (done ++ next ∷ []) rest old s

@@ -4,7 +4,8 @@ ghost use Rattle.nn_whole.specs.Leaving.{AreTheLines, MoreIsSaid, EndingIsKept};
 ghost use Rattle.nn_whole.specs.Closed.{ClosingAnswersNone, EarlyAnswersNone, ClosedIsKept, EarlyIsKept};
 ghost use Rattle.nn_whole.specs.Ended.{EndedOpens};
 ghost use Rattle.nn_whole.specs.Stopped.{EntryIsLeft, RunKeptLeaves};
-ghost use Rattle.nn_whole.specs.Served.{FirstIsSaid, NextIsSaid, ServingNext};
+ghost use Rattle.nn_whole.specs.Served.{FirstIsSaid, NextIsSaid, SilentIsSaid, ServingNext, ServingSilent};
+ghost use Rattle.nn_whole.specs.Counted.{FirstIsSeen, NextIsCounted, NextIsSeen, FewLines};
 
 /// Sound directories share something with which a run can begin, so no claim of a run needs one of the caller's.
 pub fn sound_directories_share()
@@ -84,4 +85,34 @@ pub fn what_was_seen_stays_so()
 /// While its last segment is ended a run is kept.
 pub fn a_run_that_is_ended_is_kept()
     ensures { EndingIsKept }
+{}
+
+/// A line without an answer changes nothing of what was said and seen.
+pub fn a_silent_line_says_nothing()
+    ensures { SilentIsSaid }
+{}
+
+/// Nor of what was kept.
+pub fn a_silent_line_is_served()
+    ensures { ServingSilent }
+{}
+
+/// Where no count has risen yet all directories are live.
+pub fn at_first_all_are_seen()
+    ensures { FirstIsSeen }
+{}
+
+/// A step that was not answered drops those that failed in it.
+pub fn the_next_step_is_counted()
+    ensures { NextIsCounted }
+{}
+
+/// At a line that was answered live are seen just those that have not failed since the run began.
+pub fn the_next_line_is_seen()
+    ensures { NextIsSeen }
+{}
+
+/// A script has few lines.
+pub fn a_script_has_few_lines()
+    ensures { FewLines }
 {}
