@@ -3,3 +3,4 @@ pub mod StandLemmas
 pub mod CallsLemmas
 pub mod SpokenLemmas
 pub mod StepLemmas
+pub mod LiveLemmas
