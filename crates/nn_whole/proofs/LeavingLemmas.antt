@@ -21,6 +21,7 @@ use Rattle.nn_whole.specs.Served.{IsSeenAt}
 use Rattle.nn_whole.specs.Ended.{book_after}
 use Rattle.nn_whole.specs.Leaving.{AreTheLines, MoreIsSaid, EndingIsKept}
 use Rattle.nn_whole.proofs.OpenedLemmas.{upgrading}
+use Rattle.nn_whole.proofs.ServingLemmas.{come_of}
 use Rattle.nn_whole.proofs.ServedLemmas.{answers_longer, since_said}
 
 pub are_the_lines : AreTheLines
@@ -114,5 +115,6 @@ module _ (asked : RunAsked) (ctime : ℕ) (opened : Opening) (ahead live holders
     ending_moment = inr (kept.0, part, fewer_kept kept.0 old.count (is_of_step live s) (λ i d. holders i && is_of_step live s i d) (run_at course old m) (held_at course old m) m kept.2 run_is_step held_is_step)
 
 pub ending_is_kept : EndingIsKept
-ending_is_kept asked ctime opened ahead live holders done later old s new come until quiet rise kept =
-    throughout_trans until (throughout_weaker (throughout_both quiet.each (throughout_both rise kept)) (λ t m is. ending_moment asked ctime opened ahead live holders done later old s come m is.0.said is.1.1 is.1.0))
+ending_is_kept asked ctime opened ahead live holders done later old s new least serving quiet rise kept =
+    let come = come_of asked ctime opened ahead live holders done old s least serving in
+    throughout_trans (serving.kept later) (throughout_weaker (throughout_both quiet.each (throughout_both rise kept)) (λ t m is. ending_moment asked ctime opened ahead live holders done later old s come m is.0.said is.1.1 is.1.0))

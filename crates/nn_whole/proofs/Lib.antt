@@ -7,3 +7,4 @@ pub mod LastLemmas
 pub mod ClosedLemmas
 pub mod LeavingLemmas
 pub mod CountedLemmas
+pub mod ServingLemmas

@@ -11,11 +11,10 @@ use Rattle.nn_pick.specs.Opening.{Opening}
 use Rattle.nn_script.specs.Lines.{has_no_answer}
 use Rattle.nn_run.specs.Running.{Running, Asked, SeesLive, reply_at, reply_read, after_asked}
 use Rattle.nn_run.specs.Window.{Answered, commands_of, text_of, said_since}
-use Rattle.nn_run.specs.Course.{RunAsked, first_of, opening_of, answers_of, course_of, RunKept}
+use Rattle.nn_run.specs.Course.{RunAsked, first_of, opening_of, answers_of}
 use Rattle.nn_run.specs.Steps.{HasAnswered}
 use Rattle.nn_run.proofs.LineLemmas.{read_none, commands_append}
-use Rattle.nn_run.proofs.LoopLemmas.{next_is_kept}
-use Rattle.nn_whole.specs.Served.{IsSeenAt, HasSaid, SaysLast, FirstIsSaid, NextIsSaid, ServingNext, SilentIsSaid, ServingSilent}
+use Rattle.nn_whole.specs.Served.{IsSeenAt, HasSaid, SaysLast, FirstIsSaid, NextIsSaid, SilentIsSaid}
 
 -- ---- lists with one more
 
@@ -192,18 +191,6 @@ next_is_said asked ctime opened live live_after done next after old s new has an
   answered.goes_on ∙ sym (after_append old.count (first_of asked opened) done next),
 )
 
--- ---- what is kept besides
-
-pub serving_next : ServingNext
-serving_next asked ctime opened ahead live holders done next rest old s new least serving step =
-    next_is_kept asked ctime opened ahead live holders done next rest old s new (record {
-      batch = least;
-      said = serving.said.said;
-      grown = serving.said.grown;
-      alive = λ i below same room. serving.said.alive i below room same;
-      held = serving.held;
-    }) serving.kept step
-
 -- ---- a line without an answer
 
 pub silent_is_said : SilentIsSaid
@@ -220,7 +207,3 @@ silent_is_said asked ctime opened live done next old s none sees_live sees_fault
     } in
     let both = next_is_said asked ctime opened live live done next run old s s has answered (throughout_refl (λ t. ((0, sym (append-nil s.now.said)), inl refl))) (λ i. omega arith) (λ i below e. (e, refl)) in
     (both.0, sym both.1)
-
-pub serving_silent : ServingSilent
-serving_silent asked ctime opened ahead done next rest old s kept later lines =
-    subst (λ l. RunKept (Unit {0}) (course_of asked old.count ctime opened l ahead) old s) (sym (append_assoc done (next ∷ []) later)) (kept (next ∷ later) (ap (λ l. next.line ∷ l) lines))

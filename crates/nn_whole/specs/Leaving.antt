@@ -1,5 +1,5 @@
 -- How a run leaves its lines: what was seen stays so while more is said, and its last segment is ended with what was kept.
-use Rattle.std.specs.Prelude.{◌≡◌, ℕ, Bool, ◌&&◌, List, [], ◌∷◌, ◌++◌, take, map}
+use Rattle.std.specs.Prelude.{◌≡◌, ℕ, ◌≤◌, Bool, ◌&&◌, List, [], ◌∷◌, ◌++◌, take, map}
 use Rattle.nn_base.specs.Paths.{Bytes}
 use Rattle.nn_host.specs.Moments.{State}
 use Rattle.nn_host.specs.Runs.{Throughout, Unspoken}
@@ -9,8 +9,7 @@ use Rattle.nn_run.specs.Running.{Sight, Asked}
 use Rattle.nn_run.specs.Course.{RunAsked, answers_of, course_of, RunKept}
 use Rattle.nn_run.specs.Steps.{is_of_step}
 use Rattle.nn_run.specs.Flights.{CountsRise}
-use Rattle.nn_run.specs.Loop.{HasCome}
-use Rattle.nn_whole.specs.Served.{SeenTruly}
+use Rattle.nn_whole.specs.Served.{SeenTruly, Serving}
 use Rattle.nn_whole.specs.Ended.{book_after}
 
 -- lines that weren't reached, as if all of them were seen so
@@ -28,7 +27,7 @@ MoreIsSaid = (asked : RunAsked) (ctime : ℕ) (opened : Opening) (done : List As
 
 -- Where nothing is said, no count falls and each moment keeps the Book after the lines that were answered, what was kept of the run is kept on.
 abbrev pub EndingIsKept : Type 0
-EndingIsKept = (asked : RunAsked) (ctime : ℕ) (opened : Opening) (ahead live holders : ℕ → Bool) (done later : List Asked) (old s new : State) → HasCome asked ctime opened ahead live holders done old s
-    → RunKept (Unit {0}) (course_of asked old.count ctime opened (done ++ later) ahead) old s → Unspoken (Unit {0}) s new → CountsRise (Unit {0}) s new
+EndingIsKept = (asked : RunAsked) (ctime : ℕ) (opened : Opening) (ahead live holders : ℕ → Bool) (done later : List Asked) (old s new : State) → 1 ≤ asked.batch
+    → Serving asked ctime opened ahead live holders done old s → Unspoken (Unit {0}) s new → CountsRise (Unit {0}) s new
     → Throughout (Unit {0}) s new (KeptInto (λ _. book_after asked old.count opened done ∷ []) old.count (λ _. is_of_step live s) (λ _ i d. holders i && is_of_step live s i d))
     → RunKept (Unit {0}) (course_of asked old.count ctime opened (done ++ later) ahead) old new

@@ -1,16 +1,18 @@
 -- What holds as so many lines of a run are answered: what was said, which directories are live, what was seen, and what was kept.
-use Rattle.std.specs.Prelude.{◌≡◌, ◌⊎◌, ℕ, ◌-◌, ◌^◌, ◌<◌, ◌≤◌, Bool, true, List, [], ◌∷◌, ◌++◌, length, take}
+use Rattle.std.specs.Prelude.{◌≡◌, ◌⊎◌, ℕ, ◌-◌, ◌^◌, ◌<◌, ◌≤◌, Bool, true, false, ◌||◌, List, [], ◌∷◌, ◌++◌, length, take, is_none}
 use Rattle.nn_base.specs.Paths.{Bytes}
 use Rattle.nn_host.specs.Moments.{Moment, State, faults_at}
 use Rattle.nn_host.specs.Runs.{Throughout, Unspoken}
+use Rattle.nn_marks.specs.declared.version.Version.{Version}
+use Rattle.nn_tree.specs.Namespace.{Namespace}
 use Rattle.nn_pick.specs.Opening.{Opening}
+use Rattle.nn_kept.specs.Laws.{KeptInto}
 use Rattle.nn_script.specs.Lines.{has_no_answer}
 use Rattle.nn_run.specs.Running.{Running, Asked, SeeLive, reply_at, after_asked}
-use Rattle.nn_run.specs.Window.{text_of, said_since}
-use Rattle.nn_run.specs.Course.{RunAsked, first_of, opening_of, answers_of}
-use Rattle.nn_run.specs.Steps.{StepKept, HasAnswered}
+use Rattle.nn_run.specs.Window.{text_of, said_since, is_of_run, is_held}
+use Rattle.nn_run.specs.Course.{RunAsked, begun_book, first_of, opening_of, answers_of, course_of, IsAsAtEntry, RunKept}
+use Rattle.nn_run.specs.Steps.{BetweenLines, StepKept, HasAnswered}
 use Rattle.nn_run.specs.Flights.{OnlySays}
-use Rattle.nn_run.specs.Loop.{KeptSoFar}
 
 -- ---- what was seen
 
@@ -59,21 +61,40 @@ SilentIsSaid = (asked : RunAsked) (ctime : ℕ) (opened : Opening) (live : ℕ �
     → ((i : ℕ) → next.sight.live i ≡ live i) → ((i : ℕ) → next.sight.faults i ≡ faults_at s i) → HasSaid asked ctime opened live done old s
     → HasSaid asked ctime opened live (done ++ next ∷ []) old s × (after_asked old.count (first_of asked opened) (done ++ next ∷ []) ≡ after_asked old.count (first_of asked opened) done)
 
--- ---- what the loop carries besides, of sound directories
+-- ---- what the loop carries, of sound directories
 
--- Each moment was kept so far, whatever will be seen at the lines to come; and those that had a saved state ahead and haven't failed are holders.
-pub record Serving (asked : RunAsked) (ctime : ℕ) (opened : Opening) (ahead live holders : ℕ → Bool) (done : List Asked) (rest : List Bytes) (old s : State) : Type 0 where
+-- So many lines were answered, and each moment was kept so far, whatever lines come behind them and whatever will be seen at those; and those that had a saved state ahead and haven't failed are holders.
+pub record Serving (asked : RunAsked) (ctime : ℕ) (opened : Opening) (ahead live holders : ℕ → Bool) (done : List Asked) (old s : State) : Type 0 where
   pub said : HasSaid asked ctime opened live done old s
   pub held : (i : ℕ) → i < old.count → ahead i ≡ true → faults_at s i ≡ faults_at old i → holders i ≡ true
-  pub kept : KeptSoFar asked ctime opened ahead done rest old s
+  pub kept : (later : List Asked) → RunKept (Unit {0}) (course_of asked old.count ctime opened (done ++ later) ahead) old s
 
--- Then it was so too at each moment of the next line, however its step ended.
+-- At first a start has said nothing and kept the Book at entry; all directories are live at the Book begun; and then it was said that the run has started.
+abbrev pub ServingFirst : Type 0
+ServingFirst = (asked : RunAsked) (ctime : ℕ) (opened : Opening) (ahead live has holders : ℕ → Bool) (version : Version) (list : ℕ → Namespace) (last : ℕ) (old s new : State) → 1 ≤ asked.batch
+    → ((i : ℕ) → i < old.count → live i ≡ true) → ((i : ℕ) → faults_at s i ≡ faults_at old i) → Unspoken (Unit {0}) old s
+    → Throughout (Unit {0}) old s (λ m. IsAsAtEntry old m ⊎ KeptInto (λ _. opened.book ∷ []) old.count (λ _. is_of_run opened.chosen false old) (λ _. is_held ahead opened.chosen false old) m)
+    → BetweenLines version list old.count live has (begun_book asked opened.book) last s.now → ((i : ℕ) → i < old.count → ahead i ≡ true → ((is_none (begun_book asked opened.book).saved || has i) ≡ true) × (holders i ≡ true))
+    → OnlySays (Unit {0}) (text_of (opening_of asked ctime opened)) s new → new.now.said ≡ s.now.said ++ text_of (opening_of asked ctime opened)
+    → Serving asked ctime opened ahead live holders [] old new × BetweenLines version list old.count live has (begun_book asked opened.book) last new.now
+
+-- one line more was answered
 abbrev pub ServingNext : Type 0
-ServingNext = (asked : RunAsked) (ctime : ℕ) (opened : Opening) (ahead live holders : ℕ → Bool) (done : List Asked) (next : Asked) (rest : List Bytes) (old s new : State) → 1 ≤ asked.batch
-    → Serving asked ctime opened ahead live holders done (next.line ∷ rest) old s → StepKept (Unit {0}) old.count (after_asked old.count (first_of asked opened) done) live holders next s new
-    → KeptSoFar asked ctime opened ahead (done ++ next ∷ []) rest old new
+ServingNext = (asked : RunAsked) (ctime : ℕ) (opened : Opening) (ahead live live_after holders : ℕ → Bool) (done : List Asked) (next : Asked) (after : Running) (old s new : State) → 1 ≤ asked.batch
+    → Serving asked ctime opened ahead live holders done old s → StepKept (Unit {0}) old.count (after_asked old.count (first_of asked opened) done) live holders next s new
+    → HasAnswered (Unit {0}) old.count (after_asked old.count (first_of asked opened) done) after live live_after next s new
+    → SaysLast (reply_at old.count (after_asked old.count (first_of asked opened) done) next).text s new
+    → ((i : ℕ) → faults_at s i ≤ faults_at new i) → ((i : ℕ) → i < old.count → live_after i ≡ true → (live i ≡ true) × (faults_at new i ≡ faults_at s i))
+    → Serving asked ctime opened ahead live_after holders (done ++ next ∷ []) old new × (after ≡ after_asked old.count (first_of asked opened) (done ++ next ∷ []))
 
--- So it is at a line in which nothing happens.
+-- a line without an answer
 abbrev pub ServingSilent : Type 0
-ServingSilent = (asked : RunAsked) (ctime : ℕ) (opened : Opening) (ahead : ℕ → Bool) (done : List Asked) (next : Asked) (rest : List Bytes) (old s : State)
-    → KeptSoFar asked ctime opened ahead done (next.line ∷ rest) old s → KeptSoFar asked ctime opened ahead (done ++ next ∷ []) rest old s
+ServingSilent = (asked : RunAsked) (ctime : ℕ) (opened : Opening) (ahead live holders : ℕ → Bool) (done : List Asked) (next : Asked) (old s : State) → has_no_answer next.line ≡ true
+    → ((i : ℕ) → next.sight.live i ≡ live i) → ((i : ℕ) → next.sight.faults i ≡ faults_at s i) → Serving asked ctime opened ahead live holders done old s
+    → Serving asked ctime opened ahead live holders (done ++ next ∷ []) old s × (after_asked old.count (first_of asked opened) (done ++ next ∷ []) ≡ after_asked old.count (first_of asked opened) done)
+
+-- a line that was not answered: each moment of its step is kept too
+abbrev pub ServingOut : Type 0
+ServingOut = (asked : RunAsked) (ctime : ℕ) (opened : Opening) (ahead live holders : ℕ → Bool) (done : List Asked) (next : Asked) (later : List Asked) (old s new : State) → 1 ≤ asked.batch
+    → Serving asked ctime opened ahead live holders done old s → StepKept (Unit {0}) old.count (after_asked old.count (first_of asked opened) done) live holders next s new
+    → RunKept (Unit {0}) (course_of asked old.count ctime opened (done ++ next ∷ later) ahead) old new

@@ -4,7 +4,7 @@ ghost use Rattle.nn_whole.specs.Leaving.{AreTheLines, MoreIsSaid, EndingIsKept};
 ghost use Rattle.nn_whole.specs.Closed.{ClosingAnswersNone, EarlyAnswersNone, ClosedIsKept, EarlyIsKept};
 ghost use Rattle.nn_whole.specs.Ended.{EndedOpens};
 ghost use Rattle.nn_whole.specs.Stopped.{EntryIsLeft, RunKeptLeaves};
-ghost use Rattle.nn_whole.specs.Served.{FirstIsSaid, NextIsSaid, SilentIsSaid, ServingNext, ServingSilent};
+ghost use Rattle.nn_whole.specs.Served.{FirstIsSaid, NextIsSaid, SilentIsSaid, ServingFirst, ServingNext, ServingSilent, ServingOut};
 ghost use Rattle.nn_whole.specs.Counted.{FirstIsSeen, NextIsCounted, NextIsSeen, FewLines};
 
 /// Sound directories share something with which a run can begin, so no claim of a run needs one of the caller's.
@@ -67,7 +67,17 @@ pub fn the_next_line_is_said()
     ensures { NextIsSaid }
 {}
 
-/// Each moment of the next line is kept, however its step ended.
+/// A run that has started and said so has kept each moment, whatever lines come.
+pub fn the_first_moment_is_served()
+    ensures { ServingFirst }
+{}
+
+/// Each moment of a line that was not answered is kept too.
+pub fn an_unanswered_line_is_kept()
+    ensures { ServingOut }
+{}
+
+/// So it has behind the next line that is answered.
 pub fn the_next_line_is_served()
     ensures { ServingNext }
 {}
@@ -92,7 +102,7 @@ pub fn a_silent_line_says_nothing()
     ensures { SilentIsSaid }
 {}
 
-/// Nor of what was kept.
+/// Nor of what the loop carries.
 pub fn a_silent_line_is_served()
     ensures { ServingSilent }
 {}
