@@ -1,5 +1,5 @@
 -- The directories that have a saved state, found in order.
-use Rattle.std.proofs.Common.{◌≡◌, inl, inr, ℕ, ◌+◌, ◌<◌, ◌≤◌, ◌==◌, ◌||◌, get_or, Bool, true, false, List, length, refl, sym, ◌∙◌, ap, subst, arith}
+use Rattle.std.proofs.Common.{◌≡◌, inl, inr, ℕ, ◌+◌, ◌<◌, ◌≤◌, ◌==◌, ◌||◌, get_or, Bool, true, false, List, length, sym, ◌∙◌, ap, subst, arith}
 use Rattle.std.proofs.lemmas.Bool.Decides.{eqb_tells}
 use Rattle.std.proofs.lemmas.List.{get_or_default}
 use Rattle.nn_base.specs.declared.ids.DirNo.{DirNo}
@@ -9,7 +9,18 @@ use Rattle.nn_host.specs.Disk.{Disk}
 use Rattle.nn_state.specs.declared.typed.Settled.{Settled}
 use Rattle.nn_state.specs.Typed.{FitsSettled, dir_in}
 use Rattle.nn_state.specs.Bays.{IsAt}
-use Rattle.nn_begin.specs.Begun.{IsPlaced}
+use Rattle.nn_host.specs.Moments.{State, disk_at}
+use Rattle.nn_state.specs.Bays.{AreSettled}
+use Rattle.nn_start.specs.Entry.{SettledFitNow}
+use Rattle.nn_start.proofs.ReadyLemmas.{settled_at}
+use Rattle.nn_begin.specs.Begun.{IsPlaced, HoldsBy}
+use Rattle.nn_begin.proofs.MomentLemmas.{HoldPrevious}
+
+-- the holders of a journal have a saved state, as their states say
+pub hold_previous : {at : List Settled} {holders other : Members} (a : State) → other ≡ holders → HoldsBy at (has holders) → AreSettled a.count at → SettledFitNow at a → HoldPrevious other a
+hold_previous {at} {holders} {other} a same holds are fits j below =
+    let here = settled_at at j (let long = are.all in omega (arith, below, long)) in
+    ap (λ (set : Members). has set j) same ∙ holds j here.0 here.1 (disk_at a j) (fits j here.0 here.1)
 
 -- those of the first k
 pub record Holding (at : List Settled) (k : ℕ) (set : Members) : Type 0 where

@@ -1,3 +1,6 @@
-pub mod HoldLemmas
+pub mod MomentLemmas
+pub mod AfterLemmas
 pub mod BeginLemmas
+pub mod StandLemmas
+pub mod HoldLemmas
 pub mod StartLemmas

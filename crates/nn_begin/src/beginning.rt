@@ -1,15 +1,11 @@
 // A journal, begun over directories that are at rest.
-ghost use Rattle.std.specs.Prelude.{◌≡◌, ◌≢◌, ◌<◌, ◌^◌, ℕ, true, false, IfOk, IfErr};
+ghost use Rattle.std.specs.Prelude.{◌≡◌, ◌≢◌, ◌<◌, ◌^◌, ℕ, true, false, IfOk, IfErr, OnOk};
 ghost use Rattle.nn_base.specs.DirSets.{has};
-ghost use Rattle.nn_base.specs.declared.sub.Sub.TheVariants.{Previous};
-ghost use Rattle.nn_host.specs.Disk.{Disk};
-ghost use Rattle.nn_host.specs.Moments.{disk_at};
 ghost use Rattle.nn_host.specs.Runs.{Unspoken};
 ghost use Rattle.nn_state.specs.declared.typed.Settled.{Settled};
-ghost use Rattle.nn_state.specs.Typed.{FitsSettled, dir_in};
 ghost use Rattle.nn_state.specs.Bays.{IsAt, AreSettled};
 ghost use Rattle.nn_start.specs.Entry.{SettledFitNow};
-ghost use Rattle.nn_begin.specs.Begun.{IsReady, AreAtRest, IsBegun, BeginsKept, IsCountedIn, IsPlaced};
+ghost use Rattle.nn_begin.specs.Begun.{IsNewJournal, HoldsBy, AreAtRest, IsBegun, OnlyLogged, BeginsKept, IsCountedIn, IsPlaced};
 
 use nn_base::{DirNo, DirSet, FirstTxid, Txid};
 use nn_host::Host;
@@ -32,9 +28,10 @@ pub fn begin<H: Host>(
     requires settled { AreSettled (H.state host.old).count bay.now.at.items }
     requires fits { H.told → SettledFitNow bay.now.at.items (H.state host.old) }
     requires room { last < 2 ^ 62 }
-    ensures ready { IfOk result (λ journal. IsReady (H.state host.old).count last journal) }
-    ensures holders { H.told → IfOk result (λ journal. (i : ℕ) → i < (H.state host.old).count → has journal.holders i ≡ (disk_at (H.state host.old) i).has Previous) }
-    ensures begun { H.told → (shared : _) → AreAtRest shared version.now last (H.state host.old) → IfOk result (λ journal. IsBegun shared version.now last bay.now.at.items journal (H.state host.new)) }
+    ensures ready { IfOk result (λ journal. IsNewJournal (H.state host.old).count last journal) }
+    ensures holders { IfOk result (λ journal. HoldsBy bay.now.at.items (has journal.holders)) }
+    ensures begun { H.told → (shared : _) (ns : _) → AreAtRest shared version.now last ns (H.state host.old) → IfOk result (λ journal. IsBegun shared version.now last ns bay.now.at.items journal (H.state host.new)) }
+    ensures beside { H.told → (shared : _) (ns : _) → AreAtRest shared version.now last ns (H.state host.old) → OnOk result (OnlyLogged last (H.state host.old) (H.state host.new)) }
     ensures kept { BeginsKept H.told version.now last (H.state host.old) (H.state host.new) }
     ensures unrefused { IfErr result (λ why. (refusal : _) → why ≢ OpenFault.Refused refusal) }
     ensures quiet { Unspoken H.told (H.state host.old) (H.state host.new) }
@@ -57,7 +54,7 @@ pub fn begin<H: Host>(
 // The directories that have a saved state.
 fn holders(bay: &Bay) -> DirSet
     requires placed { (k : ℕ) (it : Settled) → IsAt bay.now.at.items k it → IsPlaced k it }
-    ensures { (k : ℕ) (it : Settled) → IsAt bay.now.at.items k it → (d : Disk) → FitsSettled it d → has result k ≡ d.has Previous }
+    ensures { HoldsBy bay.now.at.items (has result) }
 {
     let mut set = DirSet::none();
     for at in &bay.at {

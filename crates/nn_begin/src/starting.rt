@@ -1,5 +1,6 @@
 // A start over several directories.
 ghost use Rattle.std.specs.Prelude.{◌≡◌, ◌<◌, ◌^◌, ℕ, IfOk, IfErr};
+ghost use Rattle.nn_base.specs.DirSets.{has};
 ghost use Rattle.nn_host.specs.Runs.{Unspoken};
 ghost use Rattle.nn_state.specs.Bays.{AreSettled};
 ghost use Rattle.nn_tree.specs.Imaged.{IsImaged};
@@ -7,7 +8,7 @@ ghost use Rattle.nn_pick.specs.declared.intent.Intent.TheVariants.{Start};
 ghost use Rattle.nn_choose.specs.Looking.{dirs_read};
 ghost use Rattle.nn_choose.specs.Picking.{Chooses, IsRefusedTruly};
 ghost use Rattle.nn_start.specs.Entry.{ReadsWhereRefused};
-ghost use Rattle.nn_begin.specs.Begun.{IsReady, IsCountedIn};
+ghost use Rattle.nn_begin.specs.Begun.{IsNewJournal, HoldsBy, IsCountedIn};
 ghost use Rattle.nn_begin.specs.Started.{Starts, HasStarted, StartsKept};
 
 use crate::beginning::begin;
@@ -27,8 +28,9 @@ pub fn start<H: Host, T: Tree>(alloc: Global, host: &mut H) -> Result<Opened<T>,
     ensures imaged { IfOk result (λ it. IsImaged (T.meaning it.tree)) }
     ensures room { IfOk result (λ it. it.last < 2 ^ 62) }
     ensures placed { IfOk result (λ it. AreSettled (H.state host.old).count it.bay.at.items) }
-    ensures ready { IfOk result (λ it. IsReady (H.state host.old).count it.last it.journal) }
-    ensures started { H.told → Starts (dirs_read (H.state host.old)) (λ shared. IfOk result (λ it. HasStarted shared it.version it.last (T.meaning it.tree) it.bay.at.items it.journal (H.state host.new))) }
+    ensures ready { IfOk result (λ it. IsNewJournal (H.state host.old).count it.last it.journal) }
+    ensures holders { IfOk result (λ it. HoldsBy it.bay.at.items (has it.journal.holders)) }
+    ensures started { H.told → Starts (dirs_read (H.state host.old)) (λ shared. IfOk result (λ it. HasStarted (H.state host.old) shared it.version it.last (T.meaning it.tree) it.bay.at.items it.journal (H.state host.new))) }
     ensures kept { StartsKept H.told (H.state host.old) (H.state host.new) }
     ensures quiet { Unspoken H.told (H.state host.old) (H.state host.new) }
     ensures cause { IsCountedIn (H.state host.old) (H.state host.new) result }

@@ -1,6 +1,6 @@
 -- From directory to directory: which of those that weren't chosen are brought up so far.
-use Rattle.std.proofs.Common.{◌≡◌, inl, inr, ℕ, ◌+◌, ◌<◌, Bool, true, false, List, [], ◌∷◌, ◌++◌, length, get_or, refl, sym, ◌∙◌, ap, subst, arith, length-append, true≢false}
-use Rattle.std.specs.Prelude.{not}
+use Rattle.std.proofs.Common.{◌≡◌, inl, inr, ℕ, ◌+◌, ◌<◌, Bool, true, false, ◌&&◌, List, [], ◌∷◌, ◌++◌, length, get_or, refl, sym, ◌∙◌, ap, subst, arith, length-append, true≢false}
+use Rattle.std.specs.Prelude.{not, is_some}
 use Rattle.std.proofs.lemmas.Bool.{cases_Bool}
 use Rattle.std.proofs.lemmas.Bool.Decides.{eqb_tells}
 use Rattle.std.proofs.lemmas.Grind.{common_steps}
@@ -15,13 +15,14 @@ use Rattle.nn_marks.specs.declared.version.Version.{Version}
 use Rattle.nn_state.specs.declared.typed.Settled.{Settled}
 use Rattle.nn_state.specs.Typed.{FitsSettled, dir_in}
 use Rattle.nn_state.specs.Bays.{IsAt, AreSettled}
+use Rattle.nn_state.specs.Seat.{saved}
 use Rattle.nn_tree.specs.Namespace.{Namespace}
 use Rattle.nn_chain.specs.Folder.{HasVersion, folder_at}
 use Rattle.nn_kept.specs.Kept.{Shared}
 use Rattle.nn_kept.specs.Laws.{EachLeft, IsKeptDisk, AllKept}
 use Rattle.nn_steps.specs.Steps.{StaysBehind}
 use Rattle.nn_start.specs.Entry.{SettledFitNow}
-use Rattle.nn_start.specs.Bringing.{IsAimedAt, IsBrought, LagsBehind, BringsKept, AreReady, KeepsAll, IsAsItWas}
+use Rattle.nn_start.specs.Bringing.{IsAimedAt, IsBroughtUp, LagsBehind, BringsKept, AreReady, KeepsAll, IsAsItWas}
 use Rattle.nn_start.proofs.WalkLemmas.{alone_then, walk_none, walk_skip, walk_run, walk_quiet, walk_more}
 use Rattle.nn_start.proofs.PhaseLemmas.{Course, Phase, lags_kept, other_kept, end_kept, sure_moved, brought_moved}
 
@@ -36,6 +37,13 @@ lag_moved {shared} {level} {keep} {version} i a b alone lags =
       saves = lags.saves;
     }
 
+-- and one that was brought up has what it had then
+brought_up_moved : {shared : Shared} {level keep : Bool} {version : Version} {id : ℕ} {a b c : State} (i : ℕ) → IsAsItWas i b c → IsBroughtUp shared level keep version id i a b → IsBroughtUp shared level keep version id i a c
+brought_up_moved {b = b} {c = c} i alone is = record { brought = brought_moved i b c alone is.brought; saves = ap (λ (d : Dir). is_some (saved d.disk)) alone.dir ∙ is.saves }
+
+brought_since : {shared : Shared} {level keep : Bool} {version : Version} {id : ℕ} {a b c : State} {i : ℕ} → IsAsItWas i a b → IsBroughtUp shared level keep version id i b c → IsBroughtUp shared level keep version id i a c
+brought_since {level = level} {keep = keep} alone is = record { brought = is.brought; saves = is.saves ∙ ap (λ (d : Dir). level && keep && is_some (saved d.disk)) alone.dir }
+
 not_chosen : (b : Bool) → not b ≡ true → b ≡ false
 not_chosen false e = refl
 not_chosen true e = sym e
@@ -49,7 +57,7 @@ is_chosen false e = sym e
 -- those that weren't chosen
 abbrev pub BringPhase : Type 0 → (ℕ → Bool) → (ℕ → Bool) → Bool → Version → ℕ → Namespace → ℕ → State → State → Type 0
 BringPhase told chosen level keep version id ns k start now =
-    Phase told (λ shared s. AreReady shared chosen level keep version id s) (λ shared i s. IsBrought shared version id i s) chosen (λ i. not (chosen i)) version id ns k start now
+    Phase told (λ shared s. AreReady shared chosen level keep version id s) (λ shared i s. IsBroughtUp shared (level i) keep version id i start s) chosen (λ i. not (chosen i)) version id ns k start now
 
 -- and the types of all of them
 pub record Bringing (told : Type 0) (chosen level : ℕ → Bool) (keep : Bool) (version : Version) (id : ℕ) (ns : Namespace) (k : ℕ) (start now : State) (at : List Settled) : Type 0 where
@@ -118,14 +126,14 @@ module _ {told : Type 0} {chosen level : ℕ → Bool} {keep : Bool} {version : 
   bringing_rose rose = rose_last so_far.walk.counts below touched.frame rose
 
   module _ (x : Settled) (counted : faults_at c k ≡ faults_at b k) (placed : (dir_in x).0 ≡ k) (fits : told → FitsSettled x (disk_at c k))
-      (brought : told → chosen k ≡ false → (shared : Shared) → IsAimedAt shared version id ns → LagsBehind shared (level k) keep version k b → IsBrought shared version id k c) where
+      (brought : told → chosen k ≡ false → (shared : Shared) → IsAimedAt shared version id ns → LagsBehind shared (level k) keep version k b → IsBroughtUp shared (level k) keep version id k b c) where
     long : length at ≡ k
     long = so_far.settled.all
 
     walked : BringPhase told chosen level keep version id ns (k + 1) a c
     walked = elim (cases_Bool (chosen k)) [
       | inl chose ↦ subst (λ (s : State). BringPhase told chosen level keep version id ns (k + 1) a s) (sym (left chose)) (walk_skip (ap not chose) so_far.walk)
-      | inr lagged ↦ walk_more so_far.walk (λ w d. IsKeptDisk w.shared false false d) touched (step lagged) (here lagged) (λ w j alone is. brought_moved j b c alone is) (ap not lagged) counted (λ w tells. brought tells lagged w.shared (w.aim tells) (lags w tells lagged))
+      | inr lagged ↦ walk_more so_far.walk (λ w d. IsKeptDisk w.shared false false d) touched (step lagged) (here lagged) (λ w j alone is. brought_up_moved j alone is) (ap not lagged) counted (λ w tells. brought_since (so_far.walk.later k (omega arith)) (brought tells lagged w.shared (w.aim tells) (lags w tells lagged)))
     ]
 
     pub bringing_more : Bringing told chosen level keep version id ns (k + 1) a c (at ++ x ∷ [])
@@ -190,20 +198,20 @@ module _ {told : Type 0} {chosen level : ℕ → Bool} {keep : Bool} {version : 
     turn_rose dir same rose = subst (λ (n : ℕ). RoseAt n a c) (sym (ap (λ (d : DirNo). d.0) same ∙ placed)) (bringing_rose so_far below touched_here left_here kept_here (subst (λ (n : ℕ). faults_at c n ≡ next_count (faults_at b n)) placed rose))
 
     pub turn_more : (x : Settled) → faults_at c (dir_in it).0 ≡ faults_at b (dir_in it).0 → dir_in x ≡ dir_in it → (told → FitsSettled x (disk_at c (dir_in it).0))
-        → (told → chosen (dir_in it).0 ≡ false → (shared : Shared) → IsAimedAt shared version id ns → LagsBehind shared (level (dir_in it).0) keep version (dir_in it).0 b → IsBrought shared version id (dir_in it).0 c)
+        → (told → chosen (dir_in it).0 ≡ false → (shared : Shared) → IsAimedAt shared version id ns → LagsBehind shared (level (dir_in it).0) keep version (dir_in it).0 b → IsBroughtUp shared (level (dir_in it).0) keep version id (dir_in it).0 b c)
         → Bringing told chosen level keep version id ns (k + 1) a c (at ++ x ∷ [])
     turn_more x counted same fits brought = bringing_more so_far below touched_here left_here kept_here x
         (subst (λ (n : ℕ). faults_at c n ≡ faults_at b n) placed counted)
         (ap (λ (d : DirNo). d.0) same ∙ placed)
         (subst (λ (n : ℕ). told → FitsSettled x (disk_at c n)) placed fits)
-        (subst (λ (n : ℕ). told → chosen n ≡ false → (shared : Shared) → IsAimedAt shared version id ns → LagsBehind shared (level n) keep version n b → IsBrought shared version id n c) placed brought)
+        (subst (λ (n : ℕ). told → chosen n ≡ false → (shared : Shared) → IsAimedAt shared version id ns → LagsBehind shared (level n) keep version n b → IsBroughtUp shared (level n) keep version id n b c) placed brought)
 
 -- all of them
 pub all_brought : {told : Type 0} {chosen level : ℕ → Bool} {keep : Bool} {version : Version} {id : ℕ} {ns : Namespace} {k : ℕ} {a b : State} {at all : List Settled} → Bringing told chosen level keep version id ns k a b at → AreSettled a.count all → k ≡ length all → Bringing told chosen level keep version id ns a.count a b at
 all_brought {told} {chosen} {level} {keep} {version} {id} {ns} {k} {a} {b} {at} so_far are last = subst (λ (n : ℕ). Bringing told chosen level keep version id ns n a b at) (last ∙ are.all) so_far
 
 pub brought_all : {told : Type 0} {chosen level : ℕ → Bool} {keep : Bool} {version : Version} {id : ℕ} {ns : Namespace} {a b : State} {at : List Settled} → Bringing told chosen level keep version id ns a.count a b at → told → (shared : Shared) → IsAimedAt shared version id ns → AreReady shared chosen level keep version id a
-    → (i : ℕ) → i < a.count → not (chosen i) ≡ true → IsBrought shared version id i b
+    → (i : ℕ) → i < a.count → not (chosen i) ≡ true → IsBroughtUp shared (level i) keep version id i a b
 brought_all so_far tells shared aim ready i below other = so_far.walk.done (record { shared = shared; run = λ j d. false; leaders = λ j d. false; aim = λ tells. aim; before = λ tells. ready; counts = λ tells. record { of_run = λ j d e. absurd (true≢false (sym e)); led = λ j d e. absurd (true≢false (sym e)) } }) tells i below other
 
 pub kept_all : {told : Type 0} {chosen level : ℕ → Bool} {keep : Bool} {version : Version} {id : ℕ} {ns : Namespace} {k : ℕ} {a b : State} {at : List Settled} → Bringing told chosen level keep version id ns k a b at → KeepsAll told (λ shared s. AreReady shared chosen level keep version id s) chosen version id ns a b

@@ -6,8 +6,8 @@ use Rattle.nn_base.specs.declared.file_name.FileName.{FileName}
 use Rattle.nn_steps.proofs.SettledLemmas.{published_is_sure}
 use Rattle.std.proofs.lemmas.Bool.{cases_Bool}
 use Rattle.nn_base.proofs.NamesLemmas.{file_tells}
-use Rattle.std.proofs.Common.{◌≡◌, ◌⊎◌, inl, inr, ℕ, Bool, true, false, List, Option, None, Result, Ok, Err, OnOk, refl, sym, ◌∙◌, ap, subst, arith, true≢false, ⊎_elim, Some}
-use Rattle.std.specs.Prelude.{is_some, Contains, IfOk}
+use Rattle.std.proofs.Common.{◌≡◌, ◌⊎◌, inl, inr, ℕ, Bool, true, false, ◌&&◌, List, Option, None, Result, Ok, Err, OnOk, refl, sym, ◌∙◌, ap, subst, arith, true≢false, ⊎_elim, Some}
+use Rattle.std.specs.Prelude.{is_some, Contains, IfOk, if◌then◌else◌}
 use Rattle.nn_base.specs.declared.sub.Sub.{Sub}
 use Rattle.nn_base.specs.declared.sub.Sub.TheVariants.{Current, Previous}
 use Rattle.std.proofs.lemmas.Option.{none-some}
@@ -44,7 +44,7 @@ use Rattle.nn_steps.proofs.SeatLemmas.{reads_whole, reads_fair}
 use Rattle.nn_steps.proofs.BroughtLemmas.{topping_up_keeps, topped_up_ends}
 use Rattle.nn_steps.proofs.ClearedLemmas.{clearing_keeps}
 use Rattle.nn_steps.proofs.MadeLemmas.{making_keeps, made_ends}
-use Rattle.nn_start.specs.Bringing.{IsAimedAt, StandsThere, IsBrought, LagsBehind, BringsKept, BringsUp, serves_by}
+use Rattle.nn_start.specs.Bringing.{IsAimedAt, StandsThere, IsBrought, IsBroughtUp, LagsBehind, BringsKept, BringsUp, serves_by}
 
 -- nothing serves as previous
 pub unsaved_by : (d : Disk) → IsIn Normal d → d.has Previous ≡ false → saved d ≡ None
@@ -140,8 +140,25 @@ made_brought shared version id ns aim i b was = record {
   intact = λ c left fair. subst (λ (x : Namespace). IsIntact (folder_at c Current) version id x) (sym aim.list) (made_intact c (made_left version id ns (disk_at b i) c was.disk left));
 }
 
-pub remade_brought : {version : Version} {id : ℕ} {ns : Namespace} (level keep : Bool) (i : ℕ) (a b : State) (fresh : Fresh) → fresh.dir.0 ≡ i → WasMade version id ns fresh.dir.0 b → (shared : Shared) → IsAimedAt shared version id ns → LagsBehind shared level keep version i a → IsBrought shared version id i b
-remade_brought {version} {id} {ns} level keep i a b fresh here was shared aim lags = subst (λ (j : ℕ). IsBrought shared version id j b) here (made_brought shared version id ns aim fresh.dir.0 b was)
+-- in one that isn't formatted nothing is saved
+pub fresh_saved : (at : Settled) (d : Disk) → serves_by at ≡ false → FitsSettled at d → saved d ≡ None
+fresh_saved (settled.Ready it) d isnt fits = absurd (true≢false isnt)
+fresh_saved (settled.ReadyWithPrevious it) d isnt fits = absurd (true≢false isnt)
+fresh_saved (settled.Fresh it) d isnt fits = ap (λ (r : Result StorageState Why). (seat_by r (seven_of d)).previous) fits
+
+none_to_keep : (level keep has : Bool) → (level ≡ true → has ≡ false) → false ≡ (level && keep && has)
+none_to_keep false keep has none = refl
+none_to_keep true false has none = refl
+none_to_keep true true has none = sym (none refl)
+
+pub remade_brought : {version : Version} {id : ℕ} {ns : Namespace} (level keep : Bool) (i : ℕ) (a b : State) (at : Settled) → FitsSettled at (disk_at a i) → (level ≡ true → serves_by at ≡ false) → (fresh : Fresh) → fresh.dir.0 ≡ i → WasMade version id ns fresh.dir.0 b → (shared : Shared) → IsAimedAt shared version id ns → LagsBehind shared level keep version i a → IsBroughtUp shared level keep version id i a b
+remade_brought {version} {id} {ns} level keep i a b at fits lower fresh here was shared aim lags = record {
+  brought = subst (λ (j : ℕ). IsBrought shared version id j b) here (made_brought shared version id ns aim fresh.dir.0 b was);
+  saves = subst (λ (j : ℕ). is_some (saved (disk_at b j)) ≡ (level && keep && is_some (saved (disk_at a i)))) here (
+      ap (λ (o : Option Sub). is_some o) (unsaved_by (disk_at b fresh.dir.0) was.disk.normal (was.disk.whole.other_subs Previous (λ e. cc)))
+      ∙ none_to_keep level keep (is_some (saved (disk_at a i))) (λ e. ap (λ (o : Option Sub). is_some o) (fresh_saved at (disk_at a i) (lower e) fits))
+      );
+}
 
 -- ---- topped up
 
@@ -179,6 +196,10 @@ stands_normal shared version id (settled.Fresh it) d ends fits =
     let serves = (ends (reading d) (reads_whole d) (reads_fair d)).3.under.serves in
     absurd (none-some serves.sub (sym (fresh_serves (reading d) (fresh_left d (reading d) (reads_whole d) fits)) ∙ serves.serves))
 
+saved_if : (keep : Bool) (o : Option Sub) → is_some (if keep then o else None) ≡ (keep && is_some o)
+saved_if true o = refl
+saved_if false o = refl
+
 module _ (level keep : Bool) (version : Version) (id : ℕ) (ns : Namespace) (i : ℕ) (a b : State) (same : level ≡ true) where
   to_top_up : (shared : Shared) → IsAimedAt shared version id ns → IsIn Normal (disk_at a i) → LagsBehind shared level keep version i a → IsToTopUp shared keep version id (disk_at a i)
   to_top_up shared aim normal lags = record {
@@ -202,4 +223,7 @@ module _ (level keep : Bool) (version : Version) (id : ℕ) (ns : Namespace) (i 
   topped_brought (Err e) normal was fits shared aim lags = tt
   topped_brought (Ok it) normal was fits shared aim lags =
       let done = topped_up_ends shared keep version id i a b (to_top_up shared aim normal lags) (lags.sure same) (subst (λ (x : Namespace). WasToppedUp keep version id x i a b) (sym aim.list) was) in
-      record { stands = record { normal = stands_normal shared version id it (disk_at b i) done.ends fits; ends = done.ends }; sure = topped_sure i a b (lags.sure same) was; intact = done.intact }
+      record {
+        brought = record { stands = record { normal = stands_normal shared version id it (disk_at b i) done.ends fits; ends = done.ends }; sure = topped_sure i a b (lags.sure same) was; intact = done.intact };
+        saves = ap (λ (o : Option Sub). is_some o) done.stays ∙ saved_if keep (saved (disk_at a i)) ∙ ap (λ (l : Bool). l && keep && is_some (saved (disk_at a i))) (sym same);
+      }

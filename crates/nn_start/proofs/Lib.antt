@@ -5,6 +5,7 @@ pub mod BringLemmas
 pub mod WalkLemmas
 pub mod PhaseLemmas
 pub mod AllBroughtLemmas
+pub mod KeepLemmas
 pub mod PublishLemmas
 pub mod ReadyLemmas
 pub mod SavedLemmas

@@ -25,7 +25,6 @@ use Rattle.nn_chain.specs.Images.{IsIntact}
 use Rattle.nn_remake.specs.Publishing.{BesideImage, IsPublishing}
 use Rattle.nn_remake.specs.Published.{IsPublished}
 use Rattle.nn_remake.specs.Rank.{IsRanked}
-use Rattle.nn_state.proofs.TableLemmas.{seven_by}
 use Rattle.nn_state.proofs.TableLemmas.{normal_seven}
 use Rattle.nn_kept.specs.Kept.{Shared}
 use Rattle.nn_kept.specs.Laws.{IsKeptDisk, AllKept}
@@ -34,14 +33,14 @@ use Rattle.nn_steps.proofs.PublishedLemmas.{publishing_ends}
 use Rattle.nn_steps.proofs.SettledLemmas.{published_is_intact, published_is_sure}
 use Rattle.nn_start.specs.Bringing.{IsAimedAt, StandsThere, IsBrought, KeepsAll, IsAsItWas}
 use Rattle.nn_start.specs.Publishing.{IsToPublish, AreToPublish}
+use Rattle.nn_start.specs.Keeping.{IsYounger}
+use Rattle.nn_segment_file.specs.Log.{Beside}
+use Rattle.nn_segment_file.proofs.BesideLemmas.{beside_trans}
+use Rattle.nn_start.proofs.KeepLemmas.{image_young, young_seven}
 use Rattle.nn_start.proofs.WalkLemmas.{walk_none, walk_skip, walk_run, walk_quiet, walk_left, walk_rose, walk_more}
 use Rattle.nn_start.proofs.PhaseLemmas.{Course, Phase, other_kept, end_kept, ends_kept, sure_moved, brought_moved}
 
 -- ---- one directory
-
--- beside an image's files the same folders serve
-beside_seven : (id : ℕ) (old d : Disk) → BesideImage id old d → seven_of d ≡ seven_of old
-beside_seven id old d beside = seven_by old d beside.root beside.subs (ap (λ (o : Option File). is_some o) (beside.other_files name.Version (λ e. cc) (λ e. cc) (λ e. cc) (λ e. cc)))
 
 module _ (shared : Shared) (version : Version) (id : ℕ) (ns : Namespace) (aim : IsAimedAt shared version id ns) (i : ℕ) (a b : State) (to : IsToPublish shared version id ns i a) where
   -- the image at the floor, by the shared list
@@ -53,7 +52,7 @@ module _ (shared : Shared) (version : Version) (id : ℕ) (ns : Namespace) (aim 
 
   pub published_there : BesideImage id (disk_at a i) (disk_at b i) → IsRanked version (record { last = id; ns = ns }) (disk_at a i) (disk_at b i) → IsPublished version id ns i a b → IsBrought shared version id i b
   published_there beside rank was =
-      let seven = beside_seven id (disk_at a i) (disk_at b i) beside in
+      let seven = young_seven id (disk_at a i) (disk_at b i) (image_young id (disk_at a i) (disk_at b i) beside) in
       record {
         stands = record {
           normal = ap table_of seven ∙ to.stands.normal;
@@ -155,14 +154,14 @@ module _ {told : Type 0} {chosen : ℕ → Bool} {version : Version} {id : ℕ} 
     | inr other ↦ subst (λ (s : State). PublishPhase told chosen version id ns (k + 1) a s) (sym (left other)) (walk_skip other walk)
   ]
 
-  -- the table says the same of each directory
-  pub publishing_states : (told → (j : ℕ) → seven_of (disk_at b j) ≡ seven_of (disk_at a j)) → told → (j : ℕ) → seven_of (disk_at c j) ≡ seven_of (disk_at a j)
-  publishing_states so_far tells j = elim (cases_Bool (chosen k)) [
+  -- VERSION and earlier images are as they were in each directory
+  pub publishing_beside : (told → (j : ℕ) → Beside (IsYounger id) (disk_at a j) (disk_at b j)) → told → (j : ℕ) → Beside (IsYounger id) (disk_at a j) (disk_at c j)
+  publishing_beside so_far tells j = elim (cases_Bool (chosen k)) [
     | inl chose ↦ elim (eqb_tells j k) [
-      | inl same ↦ subst (λ (n : ℕ). seven_of (disk_at c n) ≡ seven_of (disk_at b n)) (sym same.1) (beside_seven id (disk_at b k) (disk_at c k) ((publishing chose).ends tells).beside) ∙ so_far tells j
-      | inr differs ↦ ap (λ (d : Dir). seven_of d.disk) ((publishing chose).frame.now.dirs j differs.1) ∙ so_far tells j
+      | inl same ↦ beside_trans (so_far tells j) (subst (λ (n : ℕ). Beside (IsYounger id) (disk_at b n) (disk_at c n)) (sym same.1) (image_young id (disk_at b k) (disk_at c k) ((publishing chose).ends tells).beside))
+      | inr differs ↦ subst (λ (d : Dir). Beside (IsYounger id) (disk_at a j) d.disk) (sym ((publishing chose).frame.now.dirs j differs.1)) (so_far tells j)
     ]
-    | inr other ↦ ap (λ (s : State). seven_of (disk_at s j)) (left other) ∙ so_far tells j
+    | inr other ↦ subst (λ (s : State). Beside (IsYounger id) (disk_at a j) (disk_at s j)) (sym (left other)) (so_far tells j)
   ]
 
 -- what fits a directory fits it where the table says the same

@@ -5,7 +5,7 @@ use Rattle.nn_base.specs.declared.sub.Sub.{Sub}
 use Rattle.nn_base.specs.declared.sub.Sub.TheVariants.{Current}
 use Rattle.nn_base.specs.declared.file_name.FileName.{FileName}
 use Rattle.nn_base.specs.declared.file_name.FileName.TheVariants as name
-use Rattle.nn_host.specs.Disk.{certain}
+use Rattle.nn_host.specs.Disk.{Disk, certain}
 use Rattle.nn_host.specs.Moments.{Dir, State, IsLawful, disk_at}
 use Rattle.nn_host.proofs.CleanLemmas.{reading, sure_left}
 use Rattle.nn_marks.specs.declared.version.Version.{Version}
@@ -13,6 +13,8 @@ use Rattle.nn_state.specs.declared.state.Seven.{Seven}
 use Rattle.nn_state.specs.declared.typed.Settled.{Settled}
 use Rattle.nn_state.specs.Seat.{seat_of, serving, saved}
 use Rattle.nn_state.specs.Bays.{IsAt, AreSettled}
+use Rattle.nn_state.specs.Recovery.{SameFolder, HasServingVersion}
+use Rattle.nn_state.specs.Table.{seven_of}
 use Rattle.nn_tree.specs.Namespace.{Namespace}
 use Rattle.nn_chain.specs.Folder.{Folder, HasVersion, folder_at}
 use Rattle.nn_chain.specs.Images.{IsIntact}
@@ -22,9 +24,9 @@ use Rattle.nn_chain.proofs.ChainLemmas.{one_intact}
 use Rattle.nn_state.proofs.LeftLemmas.{seven_left}
 use Rattle.nn_pick.specs.declared.fault.OpenFault.{OpenFault}
 use Rattle.nn_pick.specs.declared.intent.Intent.TheVariants.{Start}
-use Rattle.nn_pick.specs.Dirs.{Dirs, HasGreatestCtime, IsChosen, IsAmongChosen}
-use Rattle.nn_pick.specs.Refusing.{IsChosenWithPrevious}
-use Rattle.nn_pick.specs.Opening.{Opening, Opens, AreSound}
+use Rattle.nn_pick.specs.Dirs.{Dirs, ServesUnder, HasGreatestCtime, IsChosen, IsAmongChosen}
+use Rattle.nn_pick.specs.Refusing.{IsChosenWithPrevious, IsUnrefused}
+use Rattle.nn_pick.specs.Opening.{Opening, Opens, IsSaved, Unsaved, Lost, Kept, AreSound}
 use Rattle.nn_pick.proofs.VersionLemmas.{one_current}
 use Rattle.nn_pick.proofs.OneOpeningLemmas.{one_opens}
 use Rattle.nn_kept.specs.Kept.{Rank, Shared, IsOfRun, end_at}
@@ -33,7 +35,7 @@ use Rattle.nn_kept.specs.First.{IsFirst, AreKeptFirst}
 use Rattle.nn_kept.specs.Ends.{EndsAt, EndsBetween}
 use Rattle.nn_kept.proofs.KeptLemmas.{same_version, under_each}
 use Rattle.nn_kept.proofs.KeptOpenLemmas.{there}
-use Rattle.nn_kept.proofs.UnrefusedLemmas.{agree, ours, no_spent}
+use Rattle.nn_kept.proofs.UnrefusedLemmas.{agree, ours, no_spent, read}
 use Rattle.nn_kept.proofs.KeptFirstLemmas.{sound_is_kept}
 use Rattle.nn_kept.proofs.KeptEndsLemmas.{of_run_ends}
 use Rattle.nn_steps.specs.Steps.{IsSure, StaysBehind}
@@ -44,7 +46,7 @@ use Rattle.nn_choose.specs.Looking.{dirs_read}
 use Rattle.nn_choose.specs.Picking.{Chooses, IsAhead}
 use Rattle.nn_open.specs.Answers.{settled_disk}
 use Rattle.nn_open.proofs.StepLemmas.{seven_settled}
-use Rattle.std.proofs.lemmas.Option.{none-some}
+use Rattle.std.proofs.lemmas.Option.{none-some, same_Some}
 use Rattle.std.proofs.lemmas.Bool.{cases_lt}
 use Rattle.nn_start.specs.Entry.{CountChosen, WasReopened, AllReopened, SettledFitNow}
 use Rattle.nn_start.specs.Bringing.{IsAimedAt, StandsThere, LagsBehind, AreReady, CountStanding}
@@ -60,7 +62,7 @@ settled_at (x ∷ xs) (suc k) within =
     let later = settled_at xs k (omega (arith, within)) in
     (later.0, record { within = within; is = later.1.is })
 
-is_there : {A : Type 0} (o : Option A) → o ≢ None → is_some o ≡ true
+pub is_there : {A : Type 0} (o : Option A) → o ≢ None → is_some o ≡ true
 is_there None some = absurd (some refl)
 is_there (Some x) some = refl
 
@@ -138,6 +140,39 @@ module _ (dirs : Dirs) (ns : Namespace) (id : ℕ) (version : Version) (chosen :
           room = room;
           there = subst (Contains shared.window) (λ k. record { ns = same_ns k; saved = sym saved_is k }) first.there;
         }
+
+-- ---- one directory, once it was settled
+
+settled_seven : (a : State) → IsLawful a → (i : ℕ) → seven_of (settled_disk a i) ≡ seven_of (a.reads i)
+settled_seven a lawful i = seven_settled (disk_at a i) (a.reads i) (lawful.reads i) ∙ sym (seven_left (disk_at a i) (a.reads i) (lawful.reads i))
+
+-- what serves in one that isn't refused has VERSION
+settled_versioned : (a : State) → IsLawful a → (i : ℕ) → i < a.count → IsUnrefused (dirs_read a) Start → HasServingVersion (settled_disk a i)
+settled_versioned a lawful i below unrefused sub serves = elim (read (dirs_read a) Start unrefused i below) [
+  | inl none ↦ absurd (none-some sub (sym none ∙ serves_read))
+  | inr it ↦ has it.0 it.1 it.2
+]
+  where
+    serves_read : serving (a.reads i) ≡ Some sub
+    serves_read = ap (λ (s : Seven). (seat_of s).current) (sym (settled_seven a lawful i)) ∙ serves
+
+    has : (v : Version) (folder : Folder) → ServesUnder (a.reads i) v folder → is_some ((settled_disk a i).file sub name.Version) ≡ true
+    has v folder under =
+        let same : folder ≡ folder_at (a.reads i) sub = under.serves.is ∙ ap (folder_at (a.reads i)) (same_Some under.serves.sub sub (sym under.serves.serves ∙ serves_read)) in
+        ap (λ (o : Option (List ℕ)). is_some (certain o)) (sym (ap (λ (f : Folder). f name.Version) same) ∙ under.says.1)
+
+-- a folder serves where one did
+same_there : (before now : Option Sub) (old new : Disk) → SameFolder before now old new → is_some now ≡ is_some before
+same_there None None old new same = refl
+same_there None (Some b) old new same = absurd same
+same_there (Some a) None old new same = absurd same
+same_there (Some a) (Some b) old new same = refl
+
+-- where something is saved, a chosen one has a previous
+kept_saved : (dirs : Dirs) (what : Option Namespace) → IsSaved dirs what → what ≢ None → (i : ℕ) × IsChosenWithPrevious dirs i
+kept_saved dirs what (Unsaved none is) some = absurd (some is)
+kept_saved dirs what (Lost i low lost is) some = absurd (some is)
+kept_saved dirs what (Kept i folder own end low chain is) some = (i, low.holds)
 
 -- ---- one directory, once it was opened
 
@@ -275,6 +310,12 @@ module _ (a c : State) (lawful : IsLawful a) (ns : Namespace) (id : ℕ) (versio
     inside : (i : ℕ) → i < c.count → i < a.count
     inside i below = omega (arith, below, count)
 
+    -- something is saved where that was so
+    pub saves_still : (i : ℕ) → i < c.count → is_some (saved (disk_at c i)) ≡ is_some (saved (a.reads i))
+    saves_still i below =
+        let seat = (all i (inside i below)).seat (settled_versioned a lawful i (inside i below) chose.unrefused) in
+        same_there (saved (settled_disk a i)) (saved (disk_at c i)) (settled_disk a i) (disk_at c i) seat.previous ∙ ap (λ (s : Seven). is_some (seat_of s).previous) (settled_seven a lawful i)
+
     pub are_ready : AreReady shared chosen level keep version id c
     are_ready = record {
       stand = λ i below chosen_one. stands i (inside i below) chosen_one;
@@ -311,5 +352,7 @@ opened_ready (Ok it) a c lawful count last meaning version chosen level keep at 
   aim = aimed_at (dirs_read a) (meaning it) (last it) (version it) (chosen it) chose sound shared first;
   ready = are_ready a c lawful (meaning it) (last it) (version it) (chosen it) chose sound shared first all (at it) are fits (level it) (keep it) (λ i. (ahead i).0) saves.0 count;
   to_publish = all_to_publish a c lawful (meaning it) (last it) (version it) (chosen it) chose sound shared first all (at it) are fits (level it) (keep it) (λ i. (ahead i).0) saves.0 count;
+  saves = saves_still a c lawful (meaning it) (last it) (version it) (chosen it) chose sound shared first all (at it) are fits (level it) (keep it) (λ i. (ahead i).0) saves.0 count;
+  keeps = λ some. saves.1 (kept_saved (dirs_read a) sound.opened.book.saved sound.opens.saved (λ none. some (saved_is (dirs_read a) (meaning it) (last it) (version it) (chosen it) chose sound shared first ∙ none)));
   counts = counts_standing a c lawful (meaning it) (last it) (version it) (chosen it) chose sound shared first all (at it) are fits (level it) (keep it) (λ i. (ahead i).0) saves.0 count;
 }

@@ -1,5 +1,5 @@
 -- What all directories of a start are brought up to, and how one stands before its turn and after it.
-use Rattle.std.specs.Prelude.{◌≡◌, ◌≢◌, ◌⊎◌, ℕ, ◌<◌, ◌^◌, Bool, true, false, None, is_some, Contains, Result, OnOk}
+use Rattle.std.specs.Prelude.{◌≡◌, ◌≢◌, ◌⊎◌, ℕ, ◌<◌, ◌^◌, Bool, true, false, ◌&&◌, None, is_some, Contains, Result, OnOk}
 use Rattle.nn_base.specs.declared.sub.Sub.TheVariants.{Current}
 use Rattle.nn_host.specs.Disk.{Disk}
 use Rattle.nn_host.specs.Moments.{Dir, State, disk_at}
@@ -60,9 +60,14 @@ serves_by (settled.Fresh it) = false
 abbrev pub BringsKept : Type 0 → Bool → Bool → Version → ℕ → Namespace → ℕ → State → State → Type 0
 BringsKept told level keep version id ns i old new = (shared : Shared) → (told → IsAimedAt shared version id ns) → (told → LagsBehind shared level keep version i old) → OnlyAt told i old new (IsKeptDisk shared false false)
 
--- Once that is done it stands there too.
+-- It stands there, and something is saved in it where that was so, if it is of the floor's cTime and a saved state is to stay.
+pub record IsBroughtUp (shared : Shared) (level keep : Bool) (version : Version) (id : ℕ) (i : ℕ) (old new : State) : Type 0 where
+  pub brought : IsBrought shared version id i new
+  pub saves : is_some (saved (disk_at new i)) ≡ (level && keep && is_some (saved (disk_at old i)))
+
+-- Once that is done it is so.
 abbrev pub BringsUp : {T E : Type 0} → Bool → Bool → Version → ℕ → Namespace → ℕ → State → State → Result T E → Type 0
-BringsUp level keep version id ns i old new result = (shared : Shared) → IsAimedAt shared version id ns → LagsBehind shared level keep version i old → OnOk result (IsBrought shared version id i new)
+BringsUp level keep version id ns i old new result = (shared : Shared) → IsAimedAt shared version id ns → LagsBehind shared level keep version i old → OnOk result (IsBroughtUp shared level keep version id i old new)
 
 -- ---- all of them
 

@@ -1,4 +1,5 @@
 pub mod Entry
 pub mod Bringing
 pub mod Publishing
+pub mod Keeping
 pub mod Together

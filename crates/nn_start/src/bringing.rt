@@ -7,7 +7,7 @@ ghost use Rattle.nn_state.specs.Typed.{FitsSettled, dir_in};
 ghost use Rattle.nn_state.specs.Bays.{AreSettled};
 ghost use Rattle.nn_tree.specs.Imaged.{IsImaged};
 ghost use Rattle.nn_remake.specs.Counts.{IsCountedBy as IsCountedAt};
-ghost use Rattle.nn_start.specs.Bringing.{KeepsAll, BringsAll, AreReady, IsBrought, BringsKept, BringsUp, IsAsItWas, serves_by};
+ghost use Rattle.nn_start.specs.Bringing.{KeepsAll, BringsAll, AreReady, IsBroughtUp, BringsKept, BringsUp, IsAsItWas, serves_by};
 ghost use Rattle.nn_start.specs.Entry.{SettledFitNow, IsCountedBy};
 
 use crate::opening::Aim;
@@ -31,7 +31,7 @@ pub fn bring_up<H: Host, T: Tree>(
     requires settled { AreSettled (H.state host.old).count bay.at.items }
     requires fits { H.told → SettledFitNow bay.at.items (H.state host.old) }
     requires imaged { IsImaged (T.meaning aim.now.tree) }
-    ensures brought { H.told → BringsAll (λ shared s. AreReady shared (has aim.now.chosen) (has aim.now.level) aim.now.saved aim.now.version aim.now.last s) (λ shared i s. IsBrought shared aim.now.version aim.now.last i s) (λ i. not (has aim.now.chosen i)) aim.now.version aim.now.last (T.meaning aim.now.tree) (H.state host.old) (H.state host.new) result }
+    ensures brought { H.told → BringsAll (λ shared s. AreReady shared (has aim.now.chosen) (has aim.now.level) aim.now.saved aim.now.version aim.now.last s) (λ shared i s. IsBroughtUp shared (has aim.now.level i) aim.now.saved aim.now.version aim.now.last i (H.state host.old) s) (λ i. not (has aim.now.chosen i)) aim.now.version aim.now.last (T.meaning aim.now.tree) (H.state host.old) (H.state host.new) result }
     ensures kept { KeepsAll H.told (λ shared s. AreReady shared (has aim.now.chosen) (has aim.now.level) aim.now.saved aim.now.version aim.now.last s) (has aim.now.chosen) aim.now.version aim.now.last (T.meaning aim.now.tree) (H.state host.old) (H.state host.new) }
     ensures left { (i : ℕ) → has aim.now.chosen i ≡ true → IsAsItWas i (H.state host.old) (H.state host.new) }
     ensures settled { IfOk result (λ it. AreSettled (H.state host.old).count it.at.items) }
@@ -128,6 +128,7 @@ fn remake<H: Host, T: Tree>(
 ) -> Result<Settled, MakeFault>
     requires below { (dir_in at).0 < (H.state host.old).count }
     requires fits { H.told → FitsSettled at (disk_at (H.state host.old) (dir_in at).0) }
+    requires lower { has aim.now.level (dir_in at).0 ≡ true → serves_by at ≡ false }
     requires imaged { IsImaged (T.meaning aim.now.tree) }
     ensures kept { BringsKept H.told (has aim.now.level (dir_in at).0) aim.now.saved aim.now.version aim.now.last (T.meaning aim.now.tree) (dir_in at).0 (H.state host.old) (H.state host.new) }
     ensures brought { H.told → BringsUp (has aim.now.level (dir_in at).0) aim.now.saved aim.now.version aim.now.last (T.meaning aim.now.tree) (dir_in at).0 (H.state host.old) (H.state host.new) result }

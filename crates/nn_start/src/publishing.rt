@@ -4,14 +4,15 @@ ghost use Rattle.nn_base.specs.DirSets.{has};
 ghost use Rattle.nn_base.specs.declared.sub.Sub.TheVariants.{Current};
 ghost use Rattle.nn_host.specs.Moments.{disk_at};
 ghost use Rattle.nn_host.specs.Runs.{OnlyAt, Unspoken};
-ghost use Rattle.nn_state.specs.Table.{seven_of};
 ghost use Rattle.nn_tree.specs.Imaged.{IsImaged};
+ghost use Rattle.nn_segment_file.specs.Log.{Beside};
 ghost use Rattle.nn_remake.specs.Counts.{IsCountedBy as IsCountedAt};
 ghost use Rattle.nn_remake.specs.Publishing.{IsPublishing};
 ghost use Rattle.nn_remake.specs.Published.{IsPublished};
 ghost use Rattle.nn_remake.specs.Rank.{IsRanked};
 ghost use Rattle.nn_start.specs.Bringing.{KeepsAll, BringsAll, IsBrought, IsAsItWas};
 ghost use Rattle.nn_start.specs.Publishing.{AreToPublish};
+ghost use Rattle.nn_start.specs.Keeping.{IsYounger};
 ghost use Rattle.nn_start.specs.Entry.{IsCountedBy};
 
 use crate::opening::Aim;
@@ -32,7 +33,7 @@ pub fn publish_all<H: Host, T: Tree>(
     requires imaged { IsImaged (T.meaning aim.now.tree) }
     ensures published { H.told → BringsAll (λ shared s. AreToPublish shared (has aim.now.chosen) aim.now.version aim.now.last (T.meaning aim.now.tree) s) (λ shared i s. IsBrought shared aim.now.version aim.now.last i s) (has aim.now.chosen) aim.now.version aim.now.last (T.meaning aim.now.tree) (H.state host.old) (H.state host.new) result }
     ensures kept { KeepsAll H.told (λ shared s. AreToPublish shared (has aim.now.chosen) aim.now.version aim.now.last (T.meaning aim.now.tree) s) (has aim.now.chosen) aim.now.version aim.now.last (T.meaning aim.now.tree) (H.state host.old) (H.state host.new) }
-    ensures states { H.told → (i : ℕ) → seven_of (disk_at (H.state host.new) i) ≡ seven_of (disk_at (H.state host.old) i) }
+    ensures beside { H.told → (i : ℕ) → Beside (IsYounger aim.now.last) (disk_at (H.state host.old) i) (disk_at (H.state host.new) i) }
     ensures left { (i : ℕ) → has aim.now.chosen i ≡ false → IsAsItWas i (H.state host.old) (H.state host.new) }
     ensures unrefused { IfErr result (λ why. (refusal : _) → why ≢ OpenFault.Refused refusal) }
     ensures quiet { Unspoken H.told (H.state host.old) (H.state host.new) }

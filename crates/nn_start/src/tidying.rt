@@ -4,11 +4,12 @@ ghost use Rattle.nn_base.specs.DirSets.{has};
 ghost use Rattle.nn_base.specs.declared.sub.Sub.TheVariants.{Current};
 ghost use Rattle.nn_host.specs.Moments.{disk_at};
 ghost use Rattle.nn_host.specs.Runs.{Unspoken};
-ghost use Rattle.nn_state.specs.Table.{seven_of};
 ghost use Rattle.nn_chain.specs.Folder.{folder_at};
+ghost use Rattle.nn_segment_file.specs.Log.{Beside};
 ghost use Rattle.nn_remake.specs.Tidying.{IsTidy};
 ghost use Rattle.nn_start.specs.Bringing.{KeepsAll, BringsAll};
 ghost use Rattle.nn_start.specs.Entry.{IsCountedBy};
+ghost use Rattle.nn_start.specs.Keeping.{IsYounger};
 ghost use Rattle.nn_start.specs.Together.{AllBrought, IsAtRest};
 
 use crate::opening::Aim;
@@ -30,7 +31,7 @@ pub fn tidy_all<H: Host, T: Tree>(
     ensures rests { H.told → BringsAll (λ shared s. AllBrought shared aim.now.version aim.now.last s) (λ shared i s. IsAtRest shared aim.now.version aim.now.last i s) (λ i. true) aim.now.version aim.now.last (T.meaning aim.now.tree) (H.state host.old) (H.state host.new) result }
     ensures tidy { H.told → OnOk result ((i : ℕ) → i < (H.state host.old).count → IsTidy (folder_at ((H.state host.new).reads i) Current) aim.now.version.layout aim.now.last) }
     ensures kept { KeepsAll H.told (λ shared s. AllBrought shared aim.now.version aim.now.last s) (has aim.now.chosen) aim.now.version aim.now.last (T.meaning aim.now.tree) (H.state host.old) (H.state host.new) }
-    ensures states { H.told → (i : ℕ) → seven_of (disk_at (H.state host.new) i) ≡ seven_of (disk_at (H.state host.old) i) }
+    ensures beside { H.told → (i : ℕ) → Beside (IsYounger aim.now.last) (disk_at (H.state host.old) i) (disk_at (H.state host.new) i) }
     ensures unrefused { IfErr result (λ why. (refusal : _) → why ≢ OpenFault.Refused refusal) }
     ensures quiet { Unspoken H.told (H.state host.old) (H.state host.new) }
     ensures cause { IsCountedBy (H.state host.old) (H.state host.new) result }

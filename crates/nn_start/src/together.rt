@@ -12,6 +12,7 @@ ghost use Rattle.nn_kept.specs.First.{IsFirst};
 ghost use Rattle.nn_choose.specs.Looking.{dirs_read};
 ghost use Rattle.nn_choose.specs.Picking.{Chooses, IsRefusedTruly};
 ghost use Rattle.nn_start.specs.Entry.{StartKept, SettledFitNow, ReadsWhereRefused, IsCountedBy};
+ghost use Rattle.nn_start.specs.Keeping.{ChosenKeepOwn};
 ghost use Rattle.nn_start.specs.Together.{AreTogether};
 
 use crate::bringing::bring_up;
@@ -36,6 +37,7 @@ pub fn bring_together<H: Host, T: Tree>(
     ensures placed { IfOk result (λ it. AreSettled (H.state host.old).count it.bay.at.items × ((i : ℕ) → has it.aim.chosen i ≡ true → i < (H.state host.old).count)) }
     ensures fits { H.told → IfOk result (λ it. SettledFitNow it.bay.at.items (H.state host.new)) }
     ensures together { H.told → (sound : AreSound (dirs_read (H.state host.old)) Start) (shared : Shared) → IsFirst shared (dirs_read (H.state host.old)) Start sound → IfOk result (λ it. AreTogether shared it.aim.version it.aim.last (T.meaning it.aim.tree) (H.state host.old) (H.state host.new)) }
+    ensures stays { H.told → IfOk result (λ it. ChosenKeepOwn (has it.aim.chosen) it.aim.last (H.state host.old) (H.state host.new)) }
     ensures kept { StartKept H.told (H.state host.old) (H.state host.new) }
     ensures quiet { Unspoken H.told (H.state host.old) (H.state host.new) }
     ensures cause { IsCountedBy (H.state host.old) (H.state host.new) result }

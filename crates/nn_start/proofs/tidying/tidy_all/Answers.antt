@@ -1,5 +1,5 @@
 use Rattle.std.proofs.Common.{arith}
-use Rattle.nn_start.proofs.TidyLemmas.{tidying_none, tidying_run, tidying_quiet, tidying_states, tidying_rose, tidying_more, tidied_all, tidied_kept}
+use Rattle.nn_start.proofs.TidyLemmas.{tidying_none, tidying_run, tidying_quiet, tidying_beside, tidying_rose, tidying_more, tidied_all, tidied_kept}
 use Rattle.nn_start.proofs.tidying.tidy_all.Goals as goal
 
 pub loop-i-init : goal.loop-i-init
@@ -23,8 +23,8 @@ returns-in-Err-Failed-clause-kept g c = tidying_run c.loop-i.invariant (omega ar
 pub returns-in-Err-Failed-clause-quiet : goal.returns-in-Err-Failed-clause-quiet
 returns-in-Err-Failed-clause-quiet g c = tidying_quiet c.loop-i.invariant (omega arith) c.in-Err-Failed.ensures.any_moment
 
-pub returns-in-Err-Failed-clause-states : goal.returns-in-Err-Failed-clause-states
-returns-in-Err-Failed-clause-states g c = tidying_states c.loop-i.invariant (omega arith) c.in-Err-Failed.ensures.any_moment
+pub returns-in-Err-Failed-clause-beside : goal.returns-in-Err-Failed-clause-beside
+returns-in-Err-Failed-clause-beside g c = tidying_beside c.loop-i.invariant (omega arith) c.in-Err-Failed.ensures.any_moment
 
 pub returns-in-Err-Memory-clause-kept : goal.returns-in-Err-Memory-clause-kept
 returns-in-Err-Memory-clause-kept g c = tidying_run c.loop-i.invariant (omega arith) c.in-Err-Memory.ensures.any_moment
@@ -32,8 +32,8 @@ returns-in-Err-Memory-clause-kept g c = tidying_run c.loop-i.invariant (omega ar
 pub returns-in-Err-Memory-clause-quiet : goal.returns-in-Err-Memory-clause-quiet
 returns-in-Err-Memory-clause-quiet g c = tidying_quiet c.loop-i.invariant (omega arith) c.in-Err-Memory.ensures.any_moment
 
-pub returns-in-Err-Memory-clause-states : goal.returns-in-Err-Memory-clause-states
-returns-in-Err-Memory-clause-states g c = tidying_states c.loop-i.invariant (omega arith) c.in-Err-Memory.ensures.any_moment
+pub returns-in-Err-Memory-clause-beside : goal.returns-in-Err-Memory-clause-beside
+returns-in-Err-Memory-clause-beside g c = tidying_beside c.loop-i.invariant (omega arith) c.in-Err-Memory.ensures.any_moment
 
 pub returns-clause-tidy : goal.returns-clause-tidy
 returns-clause-tidy g c = λ tells i below. c.loop-i.invariant.tidy tells i (omega arith)
