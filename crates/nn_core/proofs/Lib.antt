@@ -2,5 +2,8 @@ pub mod FlownLemmas
 pub mod StandLemmas
 pub mod CallsLemmas
 pub mod SpokenLemmas
+pub mod LineLemmas
+pub mod PlainLemmas
 pub mod StepLemmas
+pub mod EndLemmas
 pub mod LiveLemmas

@@ -1,17 +1,19 @@
 -- What went out over a step, and which directories were counted and left alone.
-use Rattle.std.proofs.Common.{◌≡◌, ◌⊎◌, inl, inr, ℕ, ◌≤◌, ◌++◌, take, Result, Ok, Err, refl, sym, ◌∙◌, ap, subst, arith}
+use Rattle.std.proofs.Common.{◌≡◌, ◌⊎◌, inl, inr, ℕ, ◌≤◌, ◌++◌, take, Result, Ok, Err, refl, sym, ◌∙◌, ap, subst, arith, ⊎_elim, false, OnOk}
 use Rattle.std.proofs.lemmas.List.{append-nil}
-use Rattle.nn_base.specs.DirSets.{Members}
+use Rattle.nn_base.specs.DirSets.{Members, has}
 use Rattle.nn_base.specs.Paths.{Bytes}
 use Rattle.nn_host.specs.Moments.{Dir, State, faults_at}
 use Rattle.nn_host.specs.Calls.{next_count}
 use Rattle.nn_host.specs.Runs.{Throughout, Unspoken}
 use Rattle.nn_host.specs.declared.host.Failed.{Failed}
 use Rattle.nn_host.proofs.RunsLemmas.{throughout_refl, throughout_trans, throughout_weaker, out_whole_trans, out_whole_unspoken, silent_after}
-use Rattle.nn_journal.specs.Among.{EachCounted, LeavesAlone}
+use Rattle.nn_journal.specs.Among.{EachCounted, LeavesAlone, StaysLive, IsDropped}
 use Rattle.nn_say.specs.Saying.{SaysFronts, Says}
 use Rattle.nn_say.proofs.SayingLemmas.{concat_pieces}
-use Rattle.nn_core.specs.Events.{unless_failed, GoesOut, OutBy}
+use Rattle.nn_core.specs.Events.{unless_failed, GoesOut, OutBy, AllFailed}
+use Rattle.nn_journal.specs.declared.journal.JournalSet.{JournalSet}
+use Rattle.nn_core.specs.declared.event.End.{End}
 
 -- ---- what is said
 
@@ -36,6 +38,17 @@ pub out_by : {told : Type 0} (a b c : State) (text : Bytes) (said : Result (Unit
 out_by a b c text (Ok v) quiet says = (out_whole_trans (out_whole_unspoken quiet) says.answered.out, says.answered.out_faults ∙ quiet.now.out_faults)
 out_by a b c text (Err e) quiet says = (silent_after (out_whole_unspoken quiet) says.failed.silent, says.failed.out_faults ∙ ap next_count quiet.now.out_faults)
 
+-- where it is so of any result, it is of an answered one
+pub any_ok : {P : Type 0} (result : Result (Unit {0}) End) → P → OnOk result P
+any_ok (Ok v) is = is
+any_ok (Err e) is = tt
+
+-- the same of another text
+pub spoken_as : {told : Type 0} {a c : State} {text other : Bytes} → text ≡ other
+    → Throughout told a c (λ m. ((n : ℕ) × (m.said ≡ a.now.said ++ take n text)) × ((m.said ≡ a.now.said) ⊎ (m.dirs ≡ c.now.dirs)))
+    → Throughout told a c (λ m. ((n : ℕ) × (m.said ≡ a.now.said ++ take n other)) × ((m.said ≡ a.now.said) ⊎ (m.dirs ≡ c.now.dirs)))
+spoken_as {told} {a} {c} same is = subst (λ (x : Bytes). Throughout told a c (λ m. ((n : ℕ) × (m.said ≡ a.now.said ++ take n x)) × ((m.said ≡ a.now.said) ⊎ (m.dirs ≡ c.now.dirs)))) same is
+
 -- ---- counts
 
 pub counts_of : (told : Type 0) (a c : State) (text : Bytes) (said : Result (Unit {0}) Failed) → Says told a c text said → (j : ℕ) → faults_at c j ≡ faults_at a j
@@ -50,6 +63,16 @@ counted_on live after a b c counted same j = elim (counted j) [
 
 pub counted_none : (live : Members) (a : State) → EachCounted live live live a a
 counted_none live a j = inl (record { same_live = refl; faults = refl })
+
+-- each live directory failed
+pub all_failed : (journal after : JournalSet) (a b : State) → EachCounted journal.live journal.live after.live a b → ((j : ℕ) → has after.live j ≡ false) → AllFailed journal after a b
+all_failed journal after a b counted none j = (
+  none j,
+  λ e. ⊎_elim
+      (λ (stays : StaysLive journal.live after.live a b j). absurd (let apart = sym (none j) ∙ stays.same_live ∙ e in cc))
+      (λ (dropped : IsDropped journal.live after.live a b j). dropped.faults)
+      (counted j),
+)
 
 -- ---- what is left alone
 

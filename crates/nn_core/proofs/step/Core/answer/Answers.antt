@@ -5,7 +5,8 @@ use Rattle.nn_script.specs.declared.command.ScriptCommand.TheVariants as command
 use Rattle.nn_script.specs.Answers.{list_text}
 use Rattle.nn_script.specs.Spelling.{answer_text, dir_lines}
 use Rattle.nn_core.specs.Events.{running}
-use Rattle.nn_core.proofs.StepLemmas.{plain_step, stepped_as, stepped_reading}
+use Rattle.nn_core.proofs.LineLemmas.{stepped_as, stepped_reading}
+use Rattle.nn_core.proofs.PlainLemmas.{plain_step}
 use Rattle.nn_core.proofs.step.Core.answer.Goals as goal
 
 pub returns-in-Clock-clause-stepped : goal.returns-in-Clock-clause-stepped

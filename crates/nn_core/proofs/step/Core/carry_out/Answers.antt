@@ -5,7 +5,8 @@ use Rattle.nn_script.specs.declared.answer.Answer.TheVariants.{Done}
 use Rattle.nn_script.specs.declared.command.ScriptCommand.TheVariants.{Namespace as Change}
 use Rattle.nn_script.specs.Spelling.{answer_text}
 use Rattle.nn_core.specs.Standing.{Comes}
-use Rattle.nn_core.proofs.StepLemmas.{synced_step, none_left_step, stepped_as, ready_as, change_taken}
+use Rattle.nn_core.proofs.LineLemmas.{stepped_as, ready_as, change_taken}
+use Rattle.nn_core.proofs.StepLemmas.{synced_step, none_left_step}
 use Rattle.nn_core.proofs.step.Core.carry_out.Goals as goal
 
 pub returns-in-Ok-clause-stepped : goal.returns-in-Ok-clause-stepped

@@ -5,7 +5,8 @@ use Rattle.nn_host.specs.Calls.{most_said}
 use Rattle.nn_say.proofs.SayingLemmas.{some_answer}
 use Rattle.nn_core.specs.Events.{running}
 use Rattle.nn_core.proofs.CallsLemmas.{refused_short}
-use Rattle.nn_core.proofs.StepLemmas.{plain_step, memory_step, stepped_as, stepped_to, change_refused, refused_idle}
+use Rattle.nn_core.proofs.LineLemmas.{stepped_as, stepped_to, change_refused, refused_idle}
+use Rattle.nn_core.proofs.PlainLemmas.{plain_step, memory_step}
 use Rattle.nn_core.proofs.step.Core.change.Goals as goal
 
 pub returns-in-Err-spoken-clause-stepped : goal.returns-in-Err-spoken-clause-stepped

@@ -1,4 +1,4 @@
-use Rattle.nn_core.proofs.StepLemmas.{ended}
+use Rattle.nn_core.proofs.EndLemmas.{ended}
 use Rattle.nn_core.proofs.step.Core.end.Goals as goal
 
 pub returns-clause-ended : goal.returns-clause-ended

@@ -2,7 +2,8 @@ use Rattle.std.proofs.Common.{inl, Some, Ok, refl, arith}
 use Rattle.nn_script.specs.declared.answer.Answer.TheVariants.{Done}
 use Rattle.nn_script.specs.declared.command.ScriptCommand.TheVariants.{Roll}
 use Rattle.nn_script.specs.Spelling.{answer_text}
-use Rattle.nn_core.proofs.StepLemmas.{synced_step, none_left_step, stepped_as, ready_as}
+use Rattle.nn_core.proofs.LineLemmas.{stepped_as, ready_as}
+use Rattle.nn_core.proofs.StepLemmas.{synced_step, none_left_step}
 use Rattle.nn_core.proofs.step.Core.roll.Goals as goal
 
 pub returns-in-Ok-clause-stepped : goal.returns-in-Ok-clause-stepped

@@ -2,7 +2,8 @@ use Rattle.std.proofs.Common.{⊎_elim, Err, refl, ap}
 use Rattle.nn_script.specs.declared.answer.Answer.TheVariants.{Unread}
 use Rattle.nn_script.specs.Spelling.{answer_text}
 use Rattle.nn_core.specs.Events.{read_as}
-use Rattle.nn_core.proofs.StepLemmas.{plain_step, stepped_as, stepped_reading}
+use Rattle.nn_core.proofs.LineLemmas.{stepped_as, stepped_reading}
+use Rattle.nn_core.proofs.PlainLemmas.{plain_step}
 use Rattle.nn_core.proofs.step.Core.step.Goals as goal
 
 pub returns-in-Bad-clause-stepped : goal.returns-in-Bad-clause-stepped

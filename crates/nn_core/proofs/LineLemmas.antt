@@ -1,0 +1,82 @@
+-- Which lines have an answer, what a command is answered, and a step under other names.
+use Rattle.std.proofs.Common.{◌≡◌, ◌≢◌, inl, inr, ⊎_elim, ℕ, false, Option, Some, None, Result, Ok, sym, ◌∙◌, ap, subst}
+use Rattle.std.proofs.lemmas.Bool.{cases_Bool}
+use Rattle.nn_base.specs.Paths.{Bytes}
+use Rattle.nn_host.specs.Moments.{State}
+use Rattle.nn_tree.specs.Namespace.{Namespace}
+use Rattle.nn_journal.specs.declared.journal.JournalSet.{JournalSet}
+use Rattle.nn_ops.specs.declared.command.Command.{Command}
+use Rattle.nn_ops.specs.declared.refusal.OpRefusal.{OpRefusal}
+use Rattle.nn_ops.specs.Bodies.{op_of}
+use Rattle.nn_ops.specs.Effects.{effect}
+use Rattle.nn_ops.specs.Step.{Outcome, refused, taken, refusal_of}
+use Rattle.nn_script.specs.declared.answer.Answer.TheVariants.{Done, Refused}
+use Rattle.nn_script.specs.Answers.{change_text}
+use Rattle.nn_script.specs.Spelling.{answer_text}
+use Rattle.nn_script.specs.declared.command.ScriptCommand.TheVariants.{Namespace as Change}
+use Rattle.nn_script.specs.declared.command.ScriptCommand.{ScriptCommand}
+use Rattle.nn_script.specs.declared.syntax.Syntax.{Syntax}
+use Rattle.nn_script.specs.Lines.{has_no_answer}
+use Rattle.nn_script.specs.Reading.{reading_of}
+use Rattle.nn_run.specs.Running.{Running, Sight, RunReply, reply_read, reply_at}
+use Rattle.nn_run.proofs.LineLemmas.{read_none}
+use Rattle.nn_core.specs.declared.event.End.{End}
+use Rattle.nn_core.specs.Ready.{IsReady}
+use Rattle.nn_core.specs.Written.{Writes}
+use Rattle.nn_core.specs.Events.{running, HasStepped}
+
+-- ---- which line it is
+
+module _ (reading : Result (Option ScriptCommand) Syntax) (some : reading ≢ Ok None) (line : Bytes) (reads : reading_of line ≡ reading) where
+  pub has_answer : has_no_answer line ≡ false
+  has_answer = elim (cases_Bool (has_no_answer line)) [
+    | inl none ↦ absurd (some (sym reads ∙ read_none line none))
+    | inr answer ↦ answer
+  ]
+
+  pub reply_is : (count : ℕ) (run : Running) (sight : Sight) (reply : RunReply) → reply_read count run sight reading ≡ reply → reply_at count run (record { line = line; sight = sight }) ≡ reply
+  reply_is count run sight reply is = ap (λ r. reply_read count run sight r) reads ∙ is
+
+-- ---- what a command is answered
+
+module _ (ns : Namespace) (command : Command) (time : ℕ) where
+  outcome_by : Option OpRefusal → Outcome
+  outcome_by None = taken (op_of ns command time) ns
+  outcome_by (Some refusal) = refused refusal ns
+
+  replied : Outcome → RunReply
+  replied outcome = record { text = change_text outcome.refusal; after = running outcome.after time }
+
+  pub change_taken : (ns_after : Namespace) → refusal_of ns command ≡ None → ns_after ≡ effect (op_of ns command time) ns → (count : ℕ) (sight : Sight)
+      → reply_read count (running ns time) sight (Ok (Some (Change command))) ≡ record { text = answer_text Done; after = running ns_after time }
+  unfolding replied outcome_by
+  change_taken ns_after none e count sight = ap (λ r. replied (outcome_by r)) none ∙ ap (λ x. record { text = answer_text Done; after = running x time }) (sym e)
+
+  pub change_refused : (refusal : OpRefusal) → refusal_of ns command ≡ Some refusal → (count : ℕ) (sight : Sight) → reply_read count (running ns time) sight (Ok (Some (Change command))) ≡ record { text = answer_text (Refused refusal); after = running ns time }
+  unfolding replied outcome_by
+  change_refused refusal some count sight = ap (λ r. replied (outcome_by r)) some
+
+-- a refused command is none that writes
+pub refused_idle : (ns : Namespace) (command : Command) (refusal : OpRefusal) → refusal_of ns command ≡ Some refusal → ¬ Writes (Ok (Some (Change command))) ns
+refused_idle ns command refusal some writes = ⊎_elim
+    (λ roll. absurd (cc roll))
+    (λ takes. absurd (let apart = sym some in let none = takes.2 in let same = takes.1 in cc))
+    writes
+
+-- ---- the same, under other names
+
+pub stepped_as : {told : Type 0} {reading : Result (Option ScriptCommand) Syntax} {count : ℕ} {ns ns_after : Namespace} {time time_after : ℕ} {journal after : JournalSet} {old new : State} {r s : Result (Unit {0}) End} → r ≡ s
+    → HasStepped told reading count ns ns_after time time_after journal after old new s → HasStepped told reading count ns ns_after time time_after journal after old new r
+stepped_as {told} {reading} {count} {ns} {ns_after} {time} {time_after} {journal} {after} {old} {new} same is = subst (λ r. HasStepped told reading count ns ns_after time time_after journal after old new r) (sym same) is
+
+pub stepped_reading : {told : Type 0} {reading other : Result (Option ScriptCommand) Syntax} {count : ℕ} {ns ns_after : Namespace} {time time_after : ℕ} {journal after : JournalSet} {old new : State} {r : Result (Unit {0}) End} → reading ≡ other
+    → HasStepped told other count ns ns_after time time_after journal after old new r → HasStepped told reading count ns ns_after time time_after journal after old new r
+stepped_reading {told} {count = count} {ns} {ns_after} {time} {time_after} {journal} {after} {old} {new} {r} same is = subst (λ x. HasStepped told x count ns ns_after time time_after journal after old new r) (sym same) is
+
+pub stepped_to : {told : Type 0} {reading : Result (Option ScriptCommand) Syntax} {count : ℕ} {ns ns_after other : Namespace} {time time_after : ℕ} {journal after : JournalSet} {old new : State} {r : Result (Unit {0}) End} → ns_after ≡ other
+    → HasStepped told reading count ns other time time_after journal after old new r → HasStepped told reading count ns ns_after time time_after journal after old new r
+stepped_to {told} {reading} {count} {ns} {time = time} {time_after} {journal} {after} {old} {new} {r} same is = subst (λ x. HasStepped told reading count ns x time time_after journal after old new r) (sym same) is
+
+-- over as many directories
+pub ready_as : {journal : JournalSet} {n m : ℕ} {s : State} → n ≡ m → IsReady journal n s → IsReady journal m s
+ready_as {journal} {s = s} same is = subst (λ k. IsReady journal k s) same is
