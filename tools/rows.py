@@ -245,9 +245,9 @@ def a_compressed_image_refuses(place):
     place.formatted("A")
     name = f"A/current/{image(0)}"
     data = reader.contents(place.at(name))
-    summary = data[78:-4]
+    summary = data[77:-4]
     summary = summary[:5] + b"\x1a\x02lz" + summary[5:]
-    data = data[:77] + bytes([len(summary)]) + summary + struct.pack(">I", 1 + len(summary))
+    data = data[:76] + bytes([len(summary)]) + summary + struct.pack(">I", 1 + len(summary))
     place.write(name, data)
     place.write(name + ".md5", f"{hashlib.md5(data).hexdigest()} *{image(0)}\n".encode())
     place.says("run A", "", "refused no-image 0 codec", 2)
@@ -345,16 +345,16 @@ def a_full_or_a_read_only_disk_drops_its_directory(place):
 @row
 def a_disk_that_fills_up_drops_its_directory(place):
     os.mkdir(place.at("B"))
-    mounted = subprocess.run(["mount", "-t", "tmpfs", "-o", "size=64k", "tmpfs", place.at("B")], stderr=subprocess.DEVNULL)
+    mounted = subprocess.run(["mount", "-t", "tmpfs", "-o", "size=48k", "tmpfs", place.at("B")], stderr=subprocess.DEVNULL)
     if mounted.returncode != 0:
         raise Skipped("no file system could be mounted")
     try:
         place.formatted("A B")
-        said, status = place.call("run A B", "".join(f"mkdir /d{n}\n" for n in range(2000)) + "dirs\n")
-        same("the answers", (said, status), ("started 0\n" + "ok\n" * 2000 + "dir 0 live\ndir 1 dropped\nok\nstopped\n", 0))
+        said, status = place.call("run A B", "".join(f"mkdir /d{n}\n" for n in range(900)) + "dirs\n")
+        same("the answers", (said, status), ("started 0\n" + "ok\n" * 900 + "dir 0 live\ndir 1 dropped\nok\nstopped\n", 0))
     finally:
         subprocess.run(["umount", place.at("B")], check=True)
-    place.says("run A B", "list /d1999\n", "started 2004|d 18385 0755 hdfs supergroup 0 - - 1 0 /d1999|ok 1|stopped")
+    place.says("run A B", "list /d899\n", "started 904|d 17285 0755 hdfs supergroup 0 - - 1 0 /d899|ok 1|stopped")
 
 
 @row
@@ -363,7 +363,8 @@ def a_call_that_fails_before_the_start_is_answered_ends_the_run(place):
     os.mkdir(place.at("B/current/seen_txid.tmp"))
     place.says("run A B", "mkdir /a\n", "fault 1", 3)
     os.rmdir(place.at("B/current/seen_txid.tmp"))
-    place.says("run A B", "", "started 1|stopped")
+    # A had begun its segment, and rolled as B was dropped.
+    place.says("run A B", "", "started 3|stopped")
 
 
 class Talk:
@@ -431,13 +432,13 @@ def a_signal_ends_a_run_as_a_stop_does(place):
 
 
 @row
-def an_output_whose_reader_is_gone_ends_a_run_as_a_stop_does(place):
+def an_output_whose_reader_is_gone_ends_a_run_by_8(place):
     place.formatted("A")
     talk = Talk(place, "run A", restore_signals=True)
     talk.child.stdout.close()
     talk.child.stdin.write("mkdir /a\nmkdir /b\n")
     talk.child.stdin.close()
-    same("the end", talk.child.wait(), -signal.SIGPIPE)
+    same("the end", talk.child.wait(), 8)
     place.says("run A", "", "started 2|stopped")
 
 

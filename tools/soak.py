@@ -138,6 +138,8 @@ class Soak:
     def turn(self):
         lines, answers, books = self.script()
         directories = self.of_run()
+        # Until the start is answered only those that it chooses hold what the run promises.
+        chosen = [it for it in directories if self.rank(it) == self.last]
         said, ended = self.run(lines, directories)
         if said and said[0] != f"started {self.last}":
             raise Lost(f"it said {said[0]!r}, and the last id was {self.last}")
@@ -151,7 +153,7 @@ class Soak:
         window = books[len(given) : len(given) + 2]
         if said and not ended and self.random.random() < 0.5:
             self.spoil_all(directories, window[0])
-        self.book = window[self.check(directories, window)]
+        self.book = window[self.check(directories if said else chosen, window)]
 
     def spoil_all(self, directories, answered):
         """The ids that were answered end where the chain has the answered namespace."""
