@@ -171,8 +171,8 @@ same_there (Some a) (Some b) old new same = refl
 -- where something is saved, a chosen one has a previous
 kept_saved : (dirs : Dirs) (what : Option Namespace) → IsSaved dirs what → what ≢ None → (i : ℕ) × IsChosenWithPrevious dirs i
 kept_saved dirs what (Unsaved none is) some = absurd (some is)
-kept_saved dirs what (Lost i low lost is) some = absurd (some is)
-kept_saved dirs what (Kept i folder own end low chain is) some = (i, low.holds)
+kept_saved dirs what (Lost i lowest lost is) some = absurd (some is)
+kept_saved dirs what (Kept i folder own end lowest chain is) some = (i, lowest.holds)
 
 -- ---- one directory, once it was opened
 

@@ -3,10 +3,11 @@ ghost use Rattle.std.specs.Prelude.{◌≡◌, ◌≢◌, ◌<◌, ℕ, true, If
 ghost use Rattle.nn_base.specs.DirSets.{has};
 ghost use Rattle.nn_base.specs.declared.sub.Sub.TheVariants.{Current};
 ghost use Rattle.nn_host.specs.Moments.{disk_at};
-ghost use Rattle.nn_host.specs.Runs.{Unspoken};
+ghost use Rattle.nn_host.specs.Runs.{OnlyAt, Unspoken};
 ghost use Rattle.nn_chain.specs.Folder.{folder_at};
 ghost use Rattle.nn_segment_file.specs.Log.{Beside};
-ghost use Rattle.nn_remake.specs.Tidying.{IsTidy};
+ghost use Rattle.nn_remake.specs.Counts.{IsCountedBy as IsCountedAt};
+ghost use Rattle.nn_remake.specs.Tidying.{IsTidying, WasTidied, IsTidy};
 ghost use Rattle.nn_start.specs.Bringing.{KeepsAll, BringsAll};
 ghost use Rattle.nn_start.specs.Entry.{IsCountedBy};
 ghost use Rattle.nn_start.specs.Keeping.{IsYounger};
@@ -38,11 +39,27 @@ pub fn tidy_all<H: Host, T: Tree>(
 {
     for i in 0..host.count() {
         let dir = DirNo(i);
-        match tidy(alloc, host, dir, aim.last, &aim.version) {
+        match tidy_at(alloc, host, dir, aim) {
             Ok(()) => {}
             Err(MakeFault::Failed) => return Err(OpenFault::Failed(dir)),
             Err(MakeFault::Memory) => return Err(OpenFault::Memory),
         }
     }
     Ok(())
+}
+
+// Tidies one directory beside the image of the aim.
+fn tidy_at<H: Host, T: Tree>(
+    alloc: Global,
+    host: &mut H,
+    i: DirNo,
+    aim: &Aim<T>,
+) -> Result<(), MakeFault>
+    requires below { i.0 < (H.state host.old).count }
+    ensures ok { H.told → OnOk result (WasTidied aim.now.version.layout aim.now.last i.0 (H.state host.old) (H.state host.new)) }
+    ensures tidy { H.told → OnOk result (IsTidy (folder_at ((H.state host.new).reads i.0) Current) aim.now.version.layout aim.now.last) }
+    ensures any_moment { OnlyAt H.told i.0 (H.state host.old) (H.state host.new) (IsTidying (folder_at ((H.state host.old).reads i.0) Current) aim.now.version.layout aim.now.last (disk_at (H.state host.old) i.0)) }
+    ensures cause { IsCountedAt i.0 (H.state host.old) (H.state host.new) result }
+{
+    tidy(alloc, host, i, aim.last, &aim.version)
 }
