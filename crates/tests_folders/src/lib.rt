@@ -3,8 +3,6 @@
 #![tactic(auto)]
 
 #[cfg(test)]
-mod folder;
-#[cfg(test)]
 mod formatting;
 #[cfg(test)]
 mod reading;

@@ -1,20 +1,22 @@
 // Images that are published and directories that are made.
-use crate::folder::{
-    DIGEST_0, DIGEST_5, IMAGE_0, IMAGE_5, KEEPS, OTHERS, PARTS, VERSION, has, lacks, lacks_sub,
-    names,
-};
-use nn_base::{DirNo, FileName, Sub, Txid};
+use nn_base::{DirNo, FileName, NoMemory, Sub, Txid};
 use nn_chain::read_image;
 use nn_host::Host;
 use nn_marks::version_read;
-use nn_memhost::{Choice, MemHost, Part};
+use nn_memhost::{MemHost, Part};
 use nn_remake::{MakeFault, make, publish};
 use nn_state::{Fresh, Ready};
 use nn_tree::{PlainTree, Tree};
 use std::alloc::Global;
-use std::test::Fail;
+use tests_kit::texts::{DIGEST_0, DIGEST_5, IMAGE_0, IMAGE_5, OTHERS, VERSION};
+use tests_kit::{first_bad_failure, first_bad_stop, give, has, has_sub, lacks, lists};
 
 const DIR: DirNo = DirNo(0);
+
+// What `current` holds beside VERSION once an image was published, and once a directory was made.
+static PUBLISHED: [&str; 3] = ["VERSION", "fsimage_5", "fsimage_5.md5"];
+
+static FOUR: [&str; 4] = ["VERSION", "fsimage_0", "fsimage_0.md5", "seen_txid"];
 
 // Publishes the empty namespace at the id 5.
 #[tactic(auto, using(nn_tree::proofs::EmptyLemmas::imaged_empty))]
@@ -30,17 +32,17 @@ fn publish_5<H: Host>(alloc: Global, host: &mut H) -> Result<(), MakeFault> {
 }
 
 // A host with VERSION and an image of the id 5 that isn't intact, whose calls fail as the list says.
-fn with_old_image(alloc: Global, fails: Vec<(u64, Part)>) -> Result<MemHost, Fail> {
+fn with_old_image(alloc: Global, fails: Vec<(u64, Part)>) -> Result<MemHost, NoMemory> {
     let mut host = MemHost::new(alloc, 1, fails)?;
-    for (name, bytes) in [
-        (FileName::Version, VERSION),
-        (FileName::Image(Txid(5)), b"old".as_slice()),
-        (FileName::Md5(Txid(5)), b"sum".as_slice()),
-    ] {
-        if host.count() == 1 {
-            host.with_file(DIR, Sub::Current, name, bytes)?;
-        }
-    }
+    give(&mut host, DIR, Sub::Current, FileName::Version, VERSION)?;
+    give(
+        &mut host,
+        DIR,
+        Sub::Current,
+        FileName::Image(Txid(5)),
+        b"old",
+    )?;
+    give(&mut host, DIR, Sub::Current, FileName::Md5(Txid(5)), b"sum")?;
     Ok(host)
 }
 
@@ -49,67 +51,123 @@ fn with_old_image(alloc: Global, fails: Vec<(u64, Part)>) -> Result<MemHost, Fai
 fn make_0(
     alloc: Global,
     fails: Vec<(u64, Part)>,
-) -> Result<(MemHost, Result<Ready, MakeFault>), Fail> {
+) -> Result<(MemHost, Result<Ready, MakeFault>), NoMemory> {
     let mut host = MemHost::new(alloc, 1, fails)?;
     let tree = PlainTree::new(alloc)?;
-    let version = version_read(VERSION)?;
+    let Ok(version) = version_read(VERSION) else {
+        return Err(NoMemory);
+    };
     let at = Fresh { dir: DIR };
     let made = make(alloc, &mut host, at, &tree, Txid(0), &version);
     Ok((host, made))
 }
 
 fn has_old(alloc: Global, host: &mut MemHost) -> bool {
-    has(alloc, host, DIR, FileName::Image(Txid(5)), b"old")
-        && has(alloc, host, DIR, FileName::Md5(Txid(5)), b"sum")
+    has(
+        alloc,
+        host,
+        DIR,
+        Sub::Current,
+        FileName::Image(Txid(5)),
+        b"old",
+    ) && has(
+        alloc,
+        host,
+        DIR,
+        Sub::Current,
+        FileName::Md5(Txid(5)),
+        b"sum",
+    )
 }
 
 fn has_new(alloc: Global, host: &mut MemHost) -> bool {
-    has(alloc, host, DIR, FileName::Image(Txid(5)), IMAGE_5)
-        && has(alloc, host, DIR, FileName::Md5(Txid(5)), DIGEST_5)
+    has(
+        alloc,
+        host,
+        DIR,
+        Sub::Current,
+        FileName::Image(Txid(5)),
+        IMAGE_5,
+    ) && has(
+        alloc,
+        host,
+        DIR,
+        Sub::Current,
+        FileName::Md5(Txid(5)),
+        DIGEST_5,
+    )
 }
 
 // The old image with its MD5 file, none, or the new one with its own; VERSION in any case.
 fn is_old_or_new(alloc: Global, host: &mut MemHost) -> bool {
-    if !has(alloc, host, DIR, FileName::Version, VERSION) {
+    if !has(alloc, host, DIR, Sub::Current, FileName::Version, VERSION) {
         return false;
     }
     has_old(alloc, host) || has_new(alloc, host) || lacks(host, DIR, FileName::Image(Txid(5)))
 }
 
 fn has_four(alloc: Global, host: &mut MemHost) -> bool {
-    has(alloc, host, DIR, FileName::Version, VERSION)
-        && has(alloc, host, DIR, FileName::Seen, b"0\n")
-        && has(alloc, host, DIR, FileName::Image(Txid(0)), IMAGE_0)
-        && has(alloc, host, DIR, FileName::Md5(Txid(0)), DIGEST_0)
+    has(alloc, host, DIR, Sub::Current, FileName::Version, VERSION)
+        && has(alloc, host, DIR, Sub::Current, FileName::Seen, b"0\n")
+        && has(
+            alloc,
+            host,
+            DIR,
+            Sub::Current,
+            FileName::Image(Txid(0)),
+            IMAGE_0,
+        )
+        && has(
+            alloc,
+            host,
+            DIR,
+            Sub::Current,
+            FileName::Md5(Txid(0)),
+            DIGEST_0,
+        )
+}
+
+// A host on which the image of the id 5 was published over one that wasn't intact, or None where that failed.
+fn published(alloc: Global) -> Option<MemHost> {
+    let mut host = with_old_image(alloc, Vec::new(alloc)).ok()?;
+    match publish_5(alloc, &mut host) {
+        Ok(()) => Some(host),
+        Err(_) => None,
+    }
+}
+
+// Whether nothing but the image and its MD5 file came to VERSION.
+fn holds_just_that(alloc: Global) -> bool {
+    match published(alloc) {
+        Some(mut host) => {
+            lists(alloc, &mut host, DIR, Sub::Current, &PUBLISHED)
+                && has_new(alloc, &mut host)
+                && has(
+                    alloc,
+                    &mut host,
+                    DIR,
+                    Sub::Current,
+                    FileName::Version,
+                    VERSION,
+                )
+                && host.said().is_empty()
+        }
+        None => false,
+    }
 }
 
 #[test]
-fn a_published_image_stands_beside_its_digest_and_nothing_is_left_of_the_way(
-    rt: HostRuntime,
-) -> Result<(), Fail> {
-    let alloc = rt.alloc();
-    let mut host = with_old_image(alloc, Vec::new(alloc))?;
-    assert!(rt; publish_5(alloc, &mut host).is_ok());
-    let names = names(alloc, &mut host, DIR);
-    let wanted = [
-        FileName::Version,
-        FileName::Image(Txid(5)),
-        FileName::Md5(Txid(5)),
-    ];
-    assert!(rt; names.as_slice() == wanted.as_slice());
-    assert!(rt; has_new(alloc, &mut host));
-    assert!(rt; has(alloc, &mut host, DIR, FileName::Version, VERSION));
-    assert!(rt; host.said().is_empty());
-    Ok(())
+fn a_published_image_stands_beside_its_digest_and_nothing_is_left_of_the_way(rt: HostRuntime) {
+    assert!(rt; holds_just_that(rt.alloc()));
 }
 
-#[test]
-fn a_published_image_reads_back_and_isnt_published_again(rt: HostRuntime) -> Result<(), Fail> {
-    let alloc = rt.alloc();
-    let mut host = with_old_image(alloc, Vec::new(alloc))?;
-    assert!(rt; publish_5(alloc, &mut host).is_ok());
-    let version = version_read(VERSION)?;
-    assert!(rt; host.count() == 1);
+// The last inode that was given out in the published image.
+fn read_back(alloc: Global) -> Option<u64> {
+    let mut host = published(alloc)?;
+    let version = version_read(VERSION).ok()?;
+    if host.count() == 0 {
+        return None;
+    }
     let read = read_image::<MemHost, PlainTree>(
         alloc,
         &mut host,
@@ -118,110 +176,154 @@ fn a_published_image_reads_back_and_isnt_published_again(rt: HostRuntime) -> Res
         Txid(5),
         &version,
     );
-    assert!(rt; read.is_ok_and(|tree| tree.counters().inode == 16385));
+    Some(read.ok()?.counters().inode)
+}
+
+// How many calls it takes to publish the image once more.
+fn calls_again(alloc: Global) -> Option<u64> {
+    let mut host = published(alloc)?;
     let before = host.calls();
-    assert!(rt; publish_5(alloc, &mut host).is_ok());
+    match publish_5(alloc, &mut host) {
+        Ok(()) => Some(host.calls().saturating_sub(before)),
+        Err(_) => None,
+    }
+}
+
+#[test]
+fn a_published_image_reads_back_and_isnt_published_again(rt: HostRuntime) {
+    assert!(rt; read_back(rt.alloc()) == Some(16385));
     // Five looks at the image, and one at its MD5 file.
-    assert!(rt; host.calls().saturating_sub(before) == 6);
-    Ok(())
+    assert!(rt; calls_again(rt.alloc()) == Some(6));
+}
+
+// Whether a directory without `current` stays so.
+fn stays_without_current(alloc: Global) -> bool {
+    let Ok(mut host) = MemHost::new(alloc, 1, Vec::new(alloc)) else {
+        return false;
+    };
+    publish_5(alloc, &mut host).is_ok() && !has_sub(&mut host, DIR, Sub::Current)
 }
 
 #[test]
-fn without_current_nothing_is_published(rt: HostRuntime) -> Result<(), Fail> {
-    let alloc = rt.alloc();
-    let mut host = MemHost::new(alloc, 1, Vec::new(alloc))?;
-    assert!(rt; publish_5(alloc, &mut host).is_ok());
-    assert!(rt; host.count() == 1);
-    assert!(rt; host.has_sub(DIR, Sub::Current) == Ok(false));
-    Ok(())
+fn without_current_nothing_is_published(rt: HostRuntime) {
+    assert!(rt; stays_without_current(rt.alloc()));
 }
 
-#[test]
-fn a_stop_inside_any_call_leaves_the_old_image_or_none_or_the_whole_new_one(
-    rt: HostRuntime,
-) -> Result<(), Fail> {
-    let alloc = rt.alloc();
-    let mut host = with_old_image(alloc, Vec::new(alloc))?;
-    assert!(rt; publish_5(alloc, &mut host).is_ok());
-    for k in 0..host.calls() {
-        for done in [false, true] {
-            for keep in KEEPS {
-                let mut left = host.stopped_at(k, Choice { done, keep })?;
-                assert!(rt; is_old_or_new(alloc, &mut left));
-            }
-        }
+// Whether a stop inside any call of publishing leaves the old image, or none, or the whole new one.
+fn is_kept_at_stops(alloc: Global) -> bool {
+    match published(alloc) {
+        Some(host) => first_bad_stop(&host, |left| is_old_or_new(alloc, left)).is_none(),
+        None => false,
     }
-    Ok(())
 }
 
 #[test]
-fn each_call_of_publishing_that_fails_is_answered(rt: HostRuntime) -> Result<(), Fail> {
-    let alloc = rt.alloc();
-    let mut whole = with_old_image(alloc, Vec::new(alloc))?;
-    assert!(rt; publish_5(alloc, &mut whole).is_ok());
-    for k in 0..whole.calls() {
-        for part in PARTS {
-            let fails = Vec::from_array(alloc, [(k, part)])?;
-            let mut host = with_old_image(alloc, fails)?;
-            assert!(rt; publish_5(alloc, &mut host) == Err(MakeFault::Failed));
-            assert!(rt; host.calls() == k + 1);
-            assert!(rt; host.starved() == 0);
-            assert!(rt; is_old_or_new(alloc, &mut host));
-        }
+fn a_stop_inside_any_call_leaves_the_old_image_or_none_or_the_whole_new_one(rt: HostRuntime) {
+    assert!(rt; is_kept_at_stops(rt.alloc()));
+}
+
+// Whether the failed call of publishing is told, and is the last.
+fn is_told_of_publishing(alloc: Global, k: u64, part: Part) -> bool {
+    let Ok(fails) = Vec::from_array(alloc, [(k, part)]) else {
+        return false;
+    };
+    let Ok(mut host) = with_old_image(alloc, fails) else {
+        return false;
+    };
+    publish_5(alloc, &mut host) == Err(MakeFault::Failed)
+        && host.calls() == k.saturating_add(1)
+        && host.starved() == 0
+        && is_old_or_new(alloc, &mut host)
+}
+
+fn is_kept_at_failures(alloc: Global) -> bool {
+    let calls = match published(alloc) {
+        Some(host) => host.calls(),
+        None => return false,
+    };
+    first_bad_failure(0, calls, |k, part| is_told_of_publishing(alloc, k, part)).is_none()
+}
+
+#[test]
+fn each_call_of_publishing_that_fails_is_answered(rt: HostRuntime) {
+    assert!(rt; is_kept_at_failures(rt.alloc()));
+}
+
+// A host whose one directory was made, or None where that failed.
+fn made(alloc: Global) -> Option<MemHost> {
+    match make_0(alloc, Vec::new(alloc)) {
+        Ok((host, Ok(Ready { dir: DirNo(0) }))) => Some(host),
+        _ => None,
     }
-    Ok(())
 }
 
-#[test]
-fn a_directory_that_is_made_has_just_its_four_files(rt: HostRuntime) -> Result<(), Fail> {
-    let alloc = rt.alloc();
-    let (mut host, made) = make_0(alloc, Vec::new(alloc))?;
-    assert!(rt; made.is_ok_and(|ready| ready.dir == DIR));
-    let names = names(alloc, &mut host, DIR);
-    let wanted = [
-        FileName::Version,
-        FileName::Image(Txid(0)),
-        FileName::Md5(Txid(0)),
-        FileName::Seen,
-    ];
-    assert!(rt; names.as_slice() == wanted.as_slice());
-    assert!(rt; has_four(alloc, &mut host));
+// Whether a directory that is made has its four files, and nothing else.
+fn has_just_four(alloc: Global) -> bool {
+    match made(alloc) {
+        Some(mut host) => {
+            lists(alloc, &mut host, DIR, Sub::Current, &FOUR)
+                && has_four(alloc, &mut host)
+                && has_no_other(&mut host)
+        }
+        None => false,
+    }
+}
+
+fn has_no_other(host: &mut MemHost) -> bool {
     for sub in OTHERS {
-        assert!(rt; lacks_sub(&mut host, DIR, sub));
+        if has_sub(host, DIR, sub) {
+            return false;
+        }
     }
-    Ok(())
+    true
 }
 
 #[test]
-fn a_stop_inside_any_call_leaves_no_version_or_all_four_files(rt: HostRuntime) -> Result<(), Fail> {
-    let alloc = rt.alloc();
-    let (host, made) = make_0(alloc, Vec::new(alloc))?;
-    assert!(rt; made.is_ok());
-    for k in 0..host.calls() {
-        for done in [false, true] {
-            for keep in KEEPS {
-                let mut left = host.stopped_at(k, Choice { done, keep })?;
-                assert!(rt; lacks(&mut left, DIR, FileName::Version) || has_four(alloc, &mut left));
-            }
-        }
+fn a_directory_that_is_made_has_just_its_four_files(rt: HostRuntime) {
+    assert!(rt; has_just_four(rt.alloc()));
+}
+
+fn is_none_or_whole(alloc: Global, host: &mut MemHost) -> bool {
+    lacks(host, DIR, FileName::Version) || has_four(alloc, host)
+}
+
+// Whether a stop inside any call of making leaves no VERSION, or all four files.
+fn is_made_at_stops(alloc: Global) -> bool {
+    match made(alloc) {
+        Some(host) => first_bad_stop(&host, |left| is_none_or_whole(alloc, left)).is_none(),
+        None => false,
     }
-    Ok(())
 }
 
 #[test]
-fn each_call_of_making_that_fails_is_answered(rt: HostRuntime) -> Result<(), Fail> {
-    let alloc = rt.alloc();
-    let (whole, made) = make_0(alloc, Vec::new(alloc))?;
-    assert!(rt; made.is_ok());
-    for k in 0..whole.calls() {
-        for part in PARTS {
-            let fails = Vec::from_array(alloc, [(k, part)])?;
-            let (mut host, made) = make_0(alloc, fails)?;
-            assert!(rt; made.err() == Some(MakeFault::Failed));
-            assert!(rt; host.calls() == k + 1);
-            assert!(rt; host.starved() == 0);
-            assert!(rt; lacks(&mut host, DIR, FileName::Version) || has_four(alloc, &mut host));
+fn a_stop_inside_any_call_leaves_no_version_or_all_four_files(rt: HostRuntime) {
+    assert!(rt; is_made_at_stops(rt.alloc()));
+}
+
+// Whether the failed call of making is told, and is the last.
+fn is_told_of_making(alloc: Global, k: u64, part: Part) -> bool {
+    let Ok(fails) = Vec::from_array(alloc, [(k, part)]) else {
+        return false;
+    };
+    match make_0(alloc, fails) {
+        Ok((mut host, Err(MakeFault::Failed))) => {
+            host.calls() == k.saturating_add(1)
+                && host.starved() == 0
+                && is_none_or_whole(alloc, &mut host)
         }
+        _ => false,
     }
-    Ok(())
+}
+
+fn is_made_at_failures(alloc: Global) -> bool {
+    let calls = match made(alloc) {
+        Some(host) => host.calls(),
+        None => return false,
+    };
+    first_bad_failure(0, calls, |k, part| is_told_of_making(alloc, k, part)).is_none()
+}
+
+#[test]
+fn each_call_of_making_that_fails_is_answered(rt: HostRuntime) {
+    assert!(rt; is_made_at_failures(rt.alloc()));
 }
