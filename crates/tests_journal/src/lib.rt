@@ -4,4 +4,6 @@
 #[cfg(test)]
 mod folder;
 #[cfg(test)]
+mod played;
+#[cfg(test)]
 mod script;

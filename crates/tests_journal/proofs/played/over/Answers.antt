@@ -1,5 +1,5 @@
 use Rattle.tests_journal.proofs.LiveLemmas.{over_first}
-use Rattle.tests_journal.proofs.script.over.Goals as goal
+use Rattle.tests_journal.proofs.played.over.Goals as goal
 
 pub returns-clause-below : goal.returns-clause-below
 returns-clause-below c = over_first c.reserve.result _ _ _ _ c.reserve.ensures.sets c.first-live.ensures c.count.ensures.count
