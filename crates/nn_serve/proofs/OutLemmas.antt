@@ -1,0 +1,213 @@
+-- Each way out of a run over one of its lines: what is known of its end.
+use Rattle.std.proofs.Common.{◌≡◌, ◌≢◌, inr, ℕ, Bool, true, false, List, [], ◌∷◌, ◌++◌, length, take, drop, map, Err, None, Option, Result, refl, sym, ◌∙◌, ap, subst, arith, append_assoc}
+use Rattle.std.proofs.Math.Seq.{take-append_seam}
+use Rattle.std.proofs.lemmas.List.{length-append, take-append-drop}
+use Rattle.nn_base.specs.DirSets.{has}
+use Rattle.nn_base.specs.Paths.{Bytes}
+use Rattle.nn_host.specs.Moments.{State, faults_at}
+use Rattle.nn_host.specs.Calls.{next_count}
+use Rattle.nn_host.specs.Runs.{Throughout}
+use Rattle.nn_host.proofs.RunsLemmas.{silent_after, throughout_told, throughout_weaker}
+use Rattle.nn_tree.specs.Namespace.{Namespace}
+use Rattle.nn_pick.specs.declared.intent.Intent.TheVariants.{Start}
+use Rattle.nn_pick.specs.declared.refusal.Refusal.{Refusal}
+use Rattle.nn_pick.specs.Opening.{Opening, Opens}
+use Rattle.nn_script.specs.declared.command.ScriptCommand.{ScriptCommand}
+use Rattle.nn_script.specs.declared.syntax.Syntax.{Syntax}
+use Rattle.nn_script.specs.Reading.{reading_of}
+use Rattle.nn_journal.specs.declared.journal.JournalSet.{JournalSet}
+use Rattle.nn_run.specs.Running.{Running, Asked, SeeLive, reply_at, after_asked}
+use Rattle.nn_run.specs.Course.{dirs_of, first_of, answers_of, course_of, RunKept}
+use Rattle.nn_run.specs.Steps.{StepKept}
+use Rattle.nn_run.proofs.LoopLemmas.{next_is_kept}
+use Rattle.nn_whole.specs.Counted.{HasSeen, SeenWithin}
+use Rattle.nn_whole.specs.Served.{SeenTruly}
+use Rattle.nn_whole.proofs.CountedLemmas.{next_is_counted}
+use Rattle.nn_whole.proofs.LeavingLemmas.{more_is_said}
+use Rattle.nn_whole.proofs.ServedLemmas.{answers_next}
+use Rattle.nn_core.specs.declared.event.End.{End}
+use Rattle.nn_core.specs.declared.event.End.TheVariants as end
+use Rattle.nn_core.specs.Events.{asked_at as seen_at, running, HasStepped}
+use Rattle.nn_core.specs.Standing.{HasIds}
+use Rattle.nn_server.specs.Came.{Speaks, is_out_fault}
+use Rattle.nn_serve.specs.declared.ending.RunEnd.{RunEnd}
+use Rattle.nn_serve.specs.declared.ending.RunEnd.TheVariants.{Ended, Refused, NoneLeft, SourceFault, ScriptTooLong, Memory, OutFault}
+use Rattle.nn_serve.specs.Ended.{run_status, run_end}
+use Rattle.nn_serve.specs.Ran.{asked_at, RunSays, BeginsSoundly, CausedBy}
+use Rattle.nn_serve.specs.Serving.{IsServing, EndsSo}
+use Rattle.nn_serve.proofs.SinceLemmas.{said_of, since_is, since_all, speaks_whole, goes_on, never_refused, all_of, step_counts, none_live, said_here, answers_here, kept_here}
+
+module _ {told : Type 0} (at count : ℕ) (ns : Namespace) (time : ℕ) (journal : JournalSet) (seen : List Asked) (old s : State) (serving : IsServing told at count ns time journal seen old s) where
+  -- what is known on its way
+  here_said : told → s.now.said ≡ old.now.said ++ said_of old s
+  here_said = said_here at count ns time journal seen old s serving
+
+  here_answers : (t : told) (opened : Opening) (opens : Opens (dirs_of old) Start opened) → opened.book.saved ≡ None → said_of old s ≡ answers_of (asked_at at) old.count opens.version.ctime opened seen
+  here_answers = answers_here at count ns time journal seen old s serving
+
+  here_kept : (t : told) (begins : BeginsSoundly old) (ahead : ℕ → Bool) (rest : List Asked) → RunKept (Unit {0}) (course_of (asked_at at) old.count begins.sound.opens.version.ctime begins.sound.opened (seen ++ rest) ahead) old s
+  here_kept = kept_here at count ns time journal seen old s serving
+
+  -- ---- where the script gave no more lines
+
+  -- so many lines were read, and all were answered
+  out_read : (end : RunEnd) → is_out_fault (run_status end) ≡ false → end ≢ Ended → ((refusal : Refusal) → end ≢ Refused refusal) → CausedBy old s end
+      → ((answers : List Asked → Bytes) (text : Bytes) → text ≡ answers seen → RunSays answers seen (length seen) end text) → EndsSo told at old s seen end
+  out_read end whole goes differs cause says = record {
+    text = said_of old s;
+    speaks = speaks_whole old s (said_of old s) (run_status end) whole serving.out here_said;
+    reached = length seen;
+    most = omega arith;
+    said = λ t opened opens none. (
+      says (answers_of (asked_at at) old.count opens.version.ctime opened) (said_of old s) (here_answers t opened opens none),
+      subst (λ l. SeenTruly (answers_of (asked_at at) old.count opens.version.ctime opened) l old s) (sym (all_of seen)) (serving.said t opened opens none).0.seen,
+    );
+    kept = here_kept;
+    ended = λ t is begins. absurd (goes is);
+    refused = never_refused old s (said_of old s) end differs serving.unrefused;
+    cause = cause;
+    live = (subst (SeeLive old.count (λ i. faults_at old i)) (sym (all_of seen)) serving.sees.sees, subst (λ l. SeenWithin l old s) (sym (all_of seen)) serving.sees.within);
+  }
+
+  pub out_source : EndsSo told at old s seen SourceFault
+  out_source = out_read SourceFault refl (λ e. cc e) (λ r e. cc e) tt (λ answers text e. (refl, e))
+
+  pub out_long : EndsSo told at old s seen ScriptTooLong
+  out_long = out_read ScriptTooLong refl (λ e. cc e) (λ r e. cc e) tt (λ answers text e. (refl, e))
+
+  -- ---- a line that was not answered
+
+  module _ (next : Asked) where
+    all_but_next : take (length seen) (seen ++ next ∷ []) ≡ seen
+    all_but_next = take-append_seam seen (next ∷ [])
+
+    -- behind the answers to all lines but this one a part of its answer was said, or nothing
+    unanswered : (new : State) (end : RunEnd) (text : Bytes) → Speaks told old new text (run_status end) → end ≢ Ended → ((refusal : Refusal) → end ≢ Refused refusal) → CausedBy old new end
+        → (live : ℕ → Bool) → HasSeen live seen old new
+        → ((t : told) (opened : Opening) (opens : Opens (dirs_of old) Start opened) → opened.book.saved ≡ None → RunSays (answers_of (asked_at at) old.count opens.version.ctime opened) (seen ++ next ∷ []) (length seen) end text)
+        → (told → (said : Bytes) × Throughout (Unit {0}) s new (λ m. (n : ℕ) × (m.said ≡ s.now.said ++ take n said)))
+        → (told → (begins : BeginsSoundly old) → StepKept (Unit {0}) old.count (after_asked old.count (first_of (asked_at at) begins.sound.opened) seen) (has journal.live) (λ i. true) next s new)
+        → EndsSo told at old new (seen ++ next ∷ []) end
+    unanswered new end text speaks goes differs cause live sees says fronts step = record {
+      text = text;
+      speaks = speaks;
+      reached = length seen;
+      most = omega (arith, length-append seen (next ∷ []));
+      said = λ t opened opens none. (
+        says t opened opens none,
+        subst (λ l. SeenTruly (answers_of (asked_at at) old.count opens.version.ctime opened) l old new) (sym all_but_next)
+            (let come = (serving.said t opened opens none).0 in more_is_said (asked_at at) opens.version.ctime opened seen (fronts t).0 old s new come.said come.seen (fronts t).1),
+      );
+      kept = λ t begins ahead rest. kept_next t begins ahead rest (step t begins);
+      ended = λ t is begins. absurd (goes is);
+      refused = never_refused old new text end differs serving.unrefused;
+      cause = cause;
+      live = (subst (SeeLive old.count (λ i. faults_at old i)) (sym all_but_next) sees.sees, subst (λ l. SeenWithin l old new) (sym all_but_next) sees.within);
+    }
+      where
+        kept_next : (t : told) (begins : BeginsSoundly old) (ahead : ℕ → Bool) (rest : List Asked) → StepKept (Unit {0}) old.count (after_asked old.count (first_of (asked_at at) begins.sound.opened) seen) (has journal.live) (λ i. true) next s new
+            → RunKept (Unit {0}) (course_of (asked_at at) old.count begins.sound.opens.version.ctime begins.sound.opened ((seen ++ next ∷ []) ++ rest) ahead) old new
+        kept_next t begins ahead rest is =
+            let come = (serving.said t begins.sound.opened begins.sound.opens begins.unsaved).0 in
+            next_is_kept (asked_at at) begins.sound.opens.version.ctime begins.sound.opened ahead (has journal.live) (λ i. true) seen next (map (λ (a : Asked). a.line) rest) old s new (record {
+              batch = omega arith;
+              said = come.said;
+              grown = come.grown;
+              alive = λ i below same room. come.alive i below room same;
+              held = λ i below is same. refl;
+            }) (serving.kept t begins ahead (next.line ∷ map (λ (a : Asked). a.line) rest)) is rest refl
+
+  -- the step of an event, as one of the run
+  step_of : (t : told) (begins : BeginsSoundly old) (line : Asked) (new : State) → StepKept (Unit {0}) count (running ns time) (has journal.live) (λ i. true) line s new
+      → StepKept (Unit {0}) old.count (after_asked old.count (first_of (asked_at at) begins.sound.opened) seen) (has journal.live) (λ i. true) line s new
+  step_of t begins line new is =
+      let same = (serving.said t begins.sound.opened begins.sound.opens begins.unsaved).1 in
+      subst (λ (c : ℕ). StepKept (Unit {0}) c (after_asked old.count (first_of (asked_at at) begins.sound.opened) seen) (has journal.live) (λ i. true) line s new) (sym serving.listed)
+      (subst (λ (r : Running). StepKept (Unit {0}) count r (has journal.live) (λ i. true) line s new) same is)
+
+  -- the answer that it would have got, as the run says it
+  text_of_next : (t : told) (opened : Opening) (opens : Opens (dirs_of old) Start opened) → opened.book.saved ≡ None → (line : Asked)
+      → answers_of (asked_at at) old.count opens.version.ctime opened (seen ++ line ∷ []) ≡ answers_of (asked_at at) old.count opens.version.ctime opened seen ++ (reply_at count (running ns time) line).text
+  text_of_next t opened opens none line =
+      answers_next (asked_at at) old.count opens.version.ctime opened seen line
+      ∙ ap (λ (r : Running). answers_of (asked_at at) old.count opens.version.ctime opened seen ++ (reply_at old.count r line).text) (sym (serving.said t opened opens none).1)
+      ∙ ap (λ (c : ℕ). answers_of (asked_at at) old.count opens.version.ctime opened seen ++ (reply_at c (running ns time) line).text) serving.listed
+
+  -- ---- want of memory, before anything was done
+
+  pub out_memory : (line : Bytes) → EndsSo told at old s (seen ++ seen_at line journal.live s ∷ []) Memory
+  out_memory line = record {
+    text = said_of old s;
+    speaks = speaks_whole old s (said_of old s) (run_status Memory) refl serving.out here_said;
+    reached = length seen;
+    most = omega (arith, length-append seen (seen_at line journal.live s ∷ []));
+    said = λ t opened opens none. (
+      inr (here_answers t opened opens none ∙ ap (answers_of (asked_at at) old.count opens.version.ctime opened) (sym (all_but_next (seen_at line journal.live s)))),
+      subst (λ l. SeenTruly (answers_of (asked_at at) old.count opens.version.ctime opened) l old s) (sym (all_but_next (seen_at line journal.live s))) (serving.said t opened opens none).0.seen,
+    );
+    kept = λ t begins ahead rest. subst (λ l. RunKept (Unit {0}) (course_of (asked_at at) old.count begins.sound.opens.version.ctime begins.sound.opened l ahead) old s)
+        (sym (append_assoc seen (seen_at line journal.live s ∷ []) rest)) (here_kept t begins ahead (seen_at line journal.live s ∷ rest));
+    ended = λ t is begins. absurd (cc is);
+    refused = never_refused old s (said_of old s) Memory (λ r e. cc e) serving.unrefused;
+    cause = tt;
+    live = (
+      subst (SeeLive old.count (λ i. faults_at old i)) (sym (all_but_next (seen_at line journal.live s))) serving.sees.sees,
+      subst (λ l. SeenWithin l old s) (sym (all_but_next (seen_at line journal.live s))) serving.sees.within,
+    );
+  }
+
+  -- ---- an event that ended the run
+
+  module _ (reading : Result (Option ScriptCommand) Syntax) (ns_after : Namespace) (time_after : ℕ) (after : JournalSet) (new : State) (ids : told → BeginsSoundly old → HasIds journal) (line : Bytes) (reads : reading_of line ≡ reading) where
+    abbrev next : Asked
+    next = seen_at line after.live new
+
+    module _ (why : End) (stepped : HasStepped told reading count ns ns_after time time_after journal after s new (Err why)) where
+      sees_after : HasSeen (has after.live) seen old new
+      sees_after = next_is_counted (has journal.live) (has after.live) seen old s new serving.sees (step_counts journal after s new stepped.live.counted)
+
+      fronts_of : told → (said : Bytes) × Throughout (Unit {0}) s new (λ m. (n : ℕ) × (m.said ≡ s.now.said ++ take n said))
+      fronts_of t = ((reply_at count (running ns time) next).text, throughout_told (λ (u : Unit {0}). t) (throughout_weaker (stepped.spoken line reads) (λ t m is. is.0)))
+
+      step_kept : (t : told) (begins : BeginsSoundly old) → StepKept (Unit {0}) old.count (after_asked old.count (first_of (asked_at at) begins.sound.opened) seen) (has journal.live) (λ i. true) next s new
+      step_kept t begins = step_of t begins next new (stepped.kept t (ids t begins) (serving.stands t begins) line reads)
+
+    out_none : HasStepped told reading count ns ns_after time time_after journal after s new (Err end.NoneLeft) → EndsSo told at old new (seen ++ next ∷ []) NoneLeft
+    out_none stepped =
+        let ends = stepped.ended in
+        let said : told → new.now.said ≡ old.now.said ++ said_of old s = λ t. ends.1.now.said ∙ here_said t in
+        unanswered next new NoneLeft (said_of old s) (speaks_whole old new (said_of old s) (run_status NoneLeft) refl (goes_on old s new serving.out stepped.out) said) (λ e. cc e) (λ r e. cc e)
+        (none_live after old new (sees_after end.NoneLeft stepped).counts (λ j. (ends.0 j).0)) (has after.live) (sees_after end.NoneLeft stepped)
+        (λ t opened opens none. here_answers t opened opens none ∙ ap (answers_of (asked_at at) old.count opens.version.ctime opened) (sym (all_but_next next)))
+        (fronts_of end.NoneLeft stepped) (step_kept end.NoneLeft stepped)
+
+    out_output : HasStepped told reading count ns ns_after time time_after journal after s new (Err end.OutFault) → EndsSo told at old new (seen ++ next ∷ []) OutFault
+    out_output stepped =
+        let text = said_of old new in
+        let front : told → (n : ℕ) × (new.now.said ≡ old.now.said ++ (said_of old s ++ take n (reply_at count (running ns time) next).text)) = (λ t.
+        let it = ((stepped.spoken line reads).ends t).0 in
+        (it.0, it.1 ∙ ap (λ x. x ++ take it.0 (reply_at count (running ns time) next).text) (here_said t) ∙ append_assoc old.now.said (said_of old s) (take it.0 (reply_at count (running ns time) next).text))) in
+        unanswered next new OutFault text (record {
+          said = λ t. since_all old new (said_of old s ++ take (front t).0 (reply_at count (running ns time) next).text) (front t).1;
+          counted = stepped.out.1 ∙ ap next_count serving.out.1;
+          silent = silent_after serving.out.0 stepped.out.0;
+          whole = λ e. absurd (cc e);
+        }) (λ e. cc e) (λ r e. cc e) tt (has after.live) (sees_after end.OutFault stepped)
+        (λ t opened opens none. (
+        let all = answers_of (asked_at at) old.count opens.version.ctime opened seen in
+        let answer = (reply_at count (running ns time) next).text in
+        let n = (front t).0 in (
+          drop n answer,
+          text_of_next t opened opens none next ∙ ap (λ x. all ++ x) (sym (take-append-drop n answer)) ∙ sym (append_assoc all (take n answer) (drop n answer))
+              ∙ ap (λ x. x ++ drop n answer) (ap (λ x. x ++ take n answer) (sym (here_answers t opened opens none)) ∙ sym (since_is old new (said_of old s ++ take n answer) (front t).1)),
+        )))
+        (fronts_of end.OutFault stepped) (step_kept end.OutFault stepped)
+
+    pub out_stepped : (why : End) → HasStepped told reading count ns ns_after time time_after journal after s new (Err why) → EndsSo told at old new (seen ++ next ∷ []) (run_end why)
+    out_stepped end.NoneLeft stepped = out_none stepped
+    out_stepped end.OutFault stepped = out_output stepped
+    out_stepped end.Memory stepped =
+        let ends = stepped.ended in
+        let same : new ≡ s = ends.1 in
+        subst (λ (z : State). EndsSo told at old z (seen ++ seen_at line after.live z ∷ []) Memory) (sym same)
+        (subst (λ (j : JournalSet). EndsSo told at old s (seen ++ seen_at line j.live s ∷ []) Memory) (sym ends.2) (out_memory line))

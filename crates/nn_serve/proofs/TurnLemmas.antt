@@ -1,0 +1,144 @@
+-- One line of a run, and then the next.
+use Rattle.std.proofs.Common.{◌≡◌, inl, inr, ℕ, ◌+◌, ◌*◌, ◌≤◌, Bool, true, List, [], ◌∷◌, ◌++◌, take, Ok, Err, None, Option, Result, refl, sym, ◌∙◌, ap, subst, arith, append_assoc}
+use Rattle.std.proofs.lemmas.Bool.{cases_Bool}
+use Rattle.nn_base.specs.DirSets.{has, count_of}
+use Rattle.nn_base.specs.Paths.{Bytes}
+use Rattle.nn_host.specs.Moments.{State}
+use Rattle.nn_host.proofs.RunsLemmas.{throughout_told}
+use Rattle.nn_tree.specs.Namespace.{Namespace}
+use Rattle.nn_pick.specs.declared.intent.Intent.TheVariants.{Start}
+use Rattle.nn_pick.specs.Opening.{Opening, Opens}
+use Rattle.nn_script.specs.declared.command.ScriptCommand.{ScriptCommand}
+use Rattle.nn_script.specs.declared.syntax.Syntax.{Syntax}
+use Rattle.nn_script.specs.Lines.{has_no_answer}
+use Rattle.nn_script.specs.Reading.{reading_of}
+use Rattle.nn_journal.specs.declared.journal.JournalSet.{JournalSet}
+use Rattle.nn_run.specs.Running.{Running, Sight, Asked, reply_read, reply_at, after_asked}
+use Rattle.nn_run.specs.Course.{dirs_of, first_of, course_of, RunKept}
+use Rattle.nn_run.proofs.LineLemmas.{read_some}
+use Rattle.nn_run.specs.Loop.{KeptSoFar}
+use Rattle.nn_run.specs.Steps.{StepKept, HasAnswered}
+use Rattle.nn_run.proofs.LoopLemmas.{next_is_kept}
+use Rattle.nn_whole.specs.Served.{HasSaid, SaysLast}
+use Rattle.nn_whole.proofs.CountedLemmas.{next_is_seen, step_rises, step_narrows}
+use Rattle.nn_whole.proofs.ServedLemmas.{next_is_said, silent_is_said}
+use Rattle.nn_core.specs.declared.event.End.{End}
+use Rattle.nn_core.specs.Events.{asked_at as seen_at, running, HasStepped}
+use Rattle.nn_core.specs.Standing.{HasIds}
+use Rattle.nn_serve.specs.Ran.{asked_at, BeginsSoundly}
+use Rattle.nn_serve.specs.Serving.{IsServing, HasRoom}
+use Rattle.nn_serve.specs.Turns.{TurnsTo}
+use Rattle.nn_serve.proofs.SinceLemmas.{goes_on, step_counts}
+use Rattle.nn_serve.proofs.OutLemmas.{out_stepped}
+
+-- ---- ids
+
+pub room_ids : {told : Type 0} {old : State} {journal : JournalSet} {more : ℕ} → HasRoom told old journal more → told → BeginsSoundly old → HasIds journal
+room_ids room tells begins = omega (arith, room.few tells begins)
+
+-- a line takes at most so many ids
+room_after : {told : Type 0} {old : State} {journal after : JournalSet} (more : ℕ) → HasRoom told old journal (more + 1) → after.last + 2 * count_of after.live ≤ journal.last + 3 + 2 * count_of journal.live → HasRoom told old after more
+room_after more room last = record { ids = omega (arith, room.ids, last); few = λ tells begins. omega (arith, room.few tells begins, last) }
+
+-- ---- a line that was answered
+
+module _ {told : Type 0} (at count : ℕ) (ns ns_after : Namespace) (time time_after : ℕ) (journal after : JournalSet) (seen : List Asked) (old s new : State) (serving : IsServing told at count ns time journal seen old s)
+    (reading : Result (Option ScriptCommand) Syntax) (line : Bytes) (reads : reading_of line ≡ reading) (v : Unit {0}) (stepped : HasStepped told reading count ns ns_after time time_after journal after s new (Ok v)) where
+  abbrev next : Asked
+  next = seen_at line after.live new
+
+  module _ (tells : told) (opened : Opening) (opens : Opens (dirs_of old) Start opened) (none : opened.book.saved ≡ None) where
+    abbrev before : Running
+    before = after_asked old.count (first_of (asked_at at) opened) seen
+
+    here : running ns time ≡ before
+    here = (serving.said tells opened opens none).1
+
+    -- as many directories, and the run that the lines have come to
+    renamed : (P : ℕ → Running → Type 0) → P count (running ns time) → P old.count before
+    renamed P p = subst (λ run. P old.count run) here (subst (λ k. P k (running ns time)) (sym serving.listed) p)
+
+    answered : HasAnswered (Unit {0}) old.count before (running ns_after time_after) (has journal.live) (has after.live) next s new
+    answered = renamed (λ k run. HasAnswered (Unit {0}) k run (running ns_after time_after) (has journal.live) (has after.live) next s new) (
+        let it = stepped.answered line reads in
+        record { said = λ u. it.said tells; goes_on = it.goes_on; counted = it.counted; sees_live = it.sees_live; sees_faults = it.sees_faults })
+
+    spoken : SaysLast (reply_at old.count before next).text s new
+    spoken = renamed (λ k run. SaysLast (reply_at k run next).text s new) (throughout_told (λ u. tells) (stepped.spoken line reads))
+
+    said_next : HasSaid (asked_at at) opens.version.ctime opened (has after.live) (seen ++ next ∷ []) old new × (running ns_after time_after ≡ after_asked old.count (first_of (asked_at at) opened) (seen ++ next ∷ []))
+    said_next =
+        let counts = step_counts journal after s new stepped.live.counted in
+        next_is_said (asked_at at) opens.version.ctime opened (has journal.live) (has after.live) seen next (running ns_after time_after) old s new (serving.said tells opened opens none).0 answered spoken
+        (step_rises (has journal.live) (has after.live) s new counts) (λ i below e. step_narrows (has journal.live) (has after.live) s new counts i e)
+
+  kept_next : (ids : told → BeginsSoundly old → HasIds journal) → told → (begins : BeginsSoundly old) (ahead : ℕ → Bool) (rest : List Bytes)
+      → KeptSoFar (asked_at at) begins.sound.opens.version.ctime begins.sound.opened ahead (seen ++ next ∷ []) rest old new
+  kept_next ids tells begins ahead rest =
+      let opened = begins.sound.opened in
+      let opens = begins.sound.opens in
+      let said = (serving.said tells opened opens begins.unsaved).0 in
+      next_is_kept (asked_at at) opens.version.ctime opened ahead (has journal.live) (λ i. true) seen next rest old s new
+      (record { batch = omega arith; said = said.said; grown = said.grown; alive = λ i below same room. said.alive i below room same; held = λ i below e same. refl })
+      (serving.kept tells begins ahead (line ∷ rest))
+      (renamed tells opened opens begins.unsaved (λ k run. StepKept (Unit {0}) k run (has journal.live) (λ i. true) next s new) (stepped.kept tells (ids tells begins) (serving.stands tells begins) line reads))
+
+  pub turned : (more : ℕ) → HasRoom told old journal (more + 1) → IsServing told at count ns_after time_after after (seen ++ next ∷ []) old new × HasRoom told old after more
+  turned more room = (
+    record {
+      listed = serving.listed;
+      ready = stepped.ready;
+      sees = next_is_seen (has journal.live) (has after.live) seen next old s new serving.sees (step_counts journal after s new stepped.live.counted) (λ i. refl) (λ i. refl);
+      out = goes_on old s new serving.out stepped.out;
+      unrefused = serving.unrefused;
+      grew = λ tells.
+          let grew = serving.grew tells in
+          let front = ((stepped.spoken line reads).ends tells).0 in
+          (grew.0 ++ take front.0 (reply_at count (running ns time) next).text, front.1 ∙ ap (λ (x : Bytes). x ++ take front.0 (reply_at count (running ns time) next).text) grew.1 ∙ append_assoc old.now.said grew.0 (take front.0 (reply_at count (running ns time) next).text));
+      said = said_next;
+      kept = kept_next (room_ids room);
+      stands = λ tells begins. stepped.stands tells (room_ids room tells begins) (serving.stands tells begins);
+    },
+    room_after more room stepped.wrote.last,
+  )
+
+-- ---- a line without an answer
+
+silent_line : (count : ℕ) (run : Running) (sight : Sight) (line : Bytes) → reading_of line ≡ Ok None → has_no_answer line ≡ true
+silent_line count run sight line reads = elim (cases_Bool (has_no_answer line)) [
+  | inl silence ↦ silence
+  | inr spoken ↦ absurd (read_some count run sight line spoken (ap (λ r. (reply_read count run sight r).text) reads))
+]
+
+pub silent : {told : Type 0} (at count : ℕ) (ns : Namespace) (time : ℕ) (journal : JournalSet) (seen : List Asked) (old s : State) → IsServing told at count ns time journal seen old s → (line : Bytes) → reading_of line ≡ Ok None → (more : ℕ) → HasRoom told old journal (more + 1)
+    → IsServing told at count ns time journal (seen ++ seen_at line journal.live s ∷ []) old s × HasRoom told old journal more
+silent at count ns time journal seen old s serving line reads more room = (
+  record {
+    listed = serving.listed;
+    ready = serving.ready;
+    sees = next_is_seen (has journal.live) (has journal.live) seen (seen_at line journal.live s) old s s serving.sees (λ i. inl (refl, refl)) (λ i. refl) (λ i. refl);
+    out = serving.out;
+    unrefused = serving.unrefused;
+    grew = serving.grew;
+    said = λ tells opened opens none.
+        let it = serving.said tells opened opens none in
+        let next = silent_is_said (asked_at at) opens.version.ctime opened (has journal.live) seen (seen_at line journal.live s) old s (silent_line count (running ns time) (seen_at line journal.live s).sight line reads) (λ i. refl) (λ i. refl) it.0 in
+        (next.0, it.1 ∙ sym next.1);
+    kept = λ tells begins ahead rest later lines.
+        subst (λ (l : List Asked). RunKept (Unit {0}) (course_of (asked_at at) old.count begins.sound.opens.version.ctime begins.sound.opened l ahead) old s) (sym (append_assoc seen (seen_at line journal.live s ∷ []) later))
+        (serving.kept tells begins ahead (line ∷ rest) (seen_at line journal.live s ∷ later) (ap (λ l. line ∷ l) lines));
+    stands = serving.stands;
+  },
+  record { ids = omega (arith, room.ids); few = λ tells begins. omega (arith, room.few tells begins) },
+)
+
+-- ---- whatever an event came to
+
+pub turned_to : {told : Type 0} (at count : ℕ) (ns ns_after : Namespace) (time time_after : ℕ) (journal after : JournalSet) (seen : List Asked) (old s new : State) → IsServing told at count ns time journal seen old s
+    → (reading : Result (Option ScriptCommand) Syntax) (line : Bytes) → reading_of line ≡ reading → (result : Result (Unit {0}) End) → HasStepped told reading count ns ns_after time time_after journal after s new result
+    → (more : ℕ) → HasRoom told old journal (more + 1) → TurnsTo told at count ns_after time_after after seen line more old new result
+turned_to at count ns ns_after time time_after journal after seen old s new serving reading line reads (Ok v) stepped more room =
+    let it = turned at count ns ns_after time time_after journal after seen old s new serving reading line reads v stepped more room in
+    (seen_at line after.live new, refl, it.0, it.1)
+turned_to at count ns ns_after time time_after journal after seen old s new serving reading line reads (Err end) stepped more room =
+    (seen_at line after.live new, refl, out_stepped at count ns time journal seen old s serving reading ns_after time_after after new (room_ids room) line reads end stepped)

@@ -1,0 +1,4 @@
+pub mod Ended
+pub mod Ran
+pub mod Serving
+pub mod Turns
