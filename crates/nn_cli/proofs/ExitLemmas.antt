@@ -6,7 +6,8 @@ use Rattle.nn_files.specs.Untold.{unfailed_state}
 use Rattle.nn_server.specs.declared.status.Status.{Status}
 use Rattle.nn_server.specs.declared.status.Status.TheVariants.{Memory}
 use Rattle.nn_server.specs.Codes.{code_of}
-use Rattle.nn_top.specs.Wanted.{Wanted, States, Format, Dry, dirs_in}
+use Rattle.nn_serve.specs.Ran.{RunRan}
+use Rattle.nn_top.specs.Wanted.{Wanted, States, Format, Dry, Run, dirs_in}
 use Rattle.nn_top.specs.Commands.{wanted_by, HaveNoReading}
 use Rattle.nn_top.specs.Did.{Unread, Did, ExitsAs}
 use Rattle.nn_top.proofs.ReadingLemmas.{one_reading, read_or_not}
@@ -33,6 +34,32 @@ counts_alone left faults before after old new Dry status did = record {
   };
   closes = did.closes;
 }
+counts_alone left faults before after old new (Run at dirs) status did = record {
+  ended = record {
+    end = did.ended.end;
+    lines = did.ended.lines;
+    trace = did.ended.trace;
+    ran = record {
+      seen = ran.seen;
+      read = record { taken = ran.read.taken; fits = ran.read.fits; lines_are = ran.read.lines_are; of_script = λ never. absurd never; counted = ran.read.counted };
+      reached = ran.reached;
+      most = ran.most;
+      said = ran.said;
+      kept = ran.kept;
+      ended = ran.ended;
+      refused = ran.refused;
+      cause = ran.cause;
+      live = ran.live;
+      complete = λ never. absurd never;
+    };
+    closes = did.ended.closes;
+  };
+  stops = did.stops;
+  stopped = did.stopped;
+}
+  where
+    ran : RunRan ⊥ ⊥ at (left before) (left after) (faults before) (faults after) old new did.ended.lines did.ended.end
+    ran = did.ended.ran
 
 -- words with a reading were done
 pub exits_done : {Source : Type 0} (left : Source → Bytes) (faults : Source → ℕ) (before after : Source) (old new : State) (words : List Bytes) (wanted : Wanted) (exit : ℕ) → wanted_by words ≡ Some wanted

@@ -5,10 +5,12 @@ use Rattle.nn_base.specs.Paths.{Bytes}
 use Rattle.nn_host.specs.Disk.{Reads}
 use Rattle.nn_host.specs.Moments.{Dir, Event, Say, State}
 use Rattle.nn_host.specs.Calls.{Spoke, next_count}
-use Rattle.nn_host.proofs.RunsLemmas.{out_whole_refl, out_whole_trans, out_spoke, silent_after, silent_spoke, spoke_front, untouched_refl, untouched_spoke}
+use Rattle.nn_host.proofs.RunsLemmas.{out_whole_refl, out_whole_trans, out_spoke, said_front, silent_after, silent_spoke, spoke_front, throughout_both, throughout_refl, throughout_weaker, untouched_refl, untouched_spoke}
+use Rattle.nn_host.proofs.WorkLemmas.{throughout_said}
 use Rattle.nn_server.specs.declared.status.Status.{Status}
 use Rattle.nn_server.specs.declared.status.Status.TheVariants as outcome
 use Rattle.nn_server.specs.Came.{is_out_fault, Speaks, TouchesNoDir}
+use Rattle.nn_say.specs.Saying.{SaysFronts}
 use Rattle.nn_say.proofs.RecordsLemmas.{records_nothing, records_as, spoke_records, cut_records}
 use Rattle.nn_top.specs.Lines.{last_line}
 use Rattle.nn_top.specs.Closes.{IsLast, last_call, Closes, Closing}
@@ -25,16 +27,26 @@ touched_spoke spoke = record {
   reads = λ tells j. ap (λ (r : ℕ → Reads). r j) spoke.reads;
 }
 
+-- a front of it at each moment
+spoke_fronts : {T E told : Type 0} {bytes : Bytes} {a b : State} {result : Result T E} → Spoke told bytes a b result → SaysFronts told a b bytes
+spoke_fronts spoke = throughout_weaker (throughout_both (throughout_said spoke) (said_front spoke)) (λ tells m is. (is.0, is.1.0, is.1.1))
+
+no_fronts : {told : Type 0} {a : State} → SaysFronts told a a []
+no_fronts {a = a} = throughout_refl (λ tells. (refl, 0, sym (append-nil a.now.said)))
+
 -- done work has no last line
 closes_done : {told : Type 0} {a : State} → Closing told a a outcome.Ok outcome.Ok
 closes_done {a = a} = record {
   dirs = touched_refl;
+  last = outcome.Ok;
+  is_last = inl refl;
+  fronts = no_fronts;
   ends = inr (refl, inl (record { is_last = inl refl; unfailed = refl; said = λ tells. sym (append-nil a.now.said); calls = λ tells. records_nothing; counted = refl; whole = out_whole_refl }));
 }
 
 -- nor has an output that failed
 closes_silent : {told : Type 0} {a : State} → Closing told a a outcome.OutFault outcome.OutFault
-closes_silent = record { dirs = touched_refl; ends = inl (refl, refl, refl) }
+closes_silent = record { dirs = touched_refl; last = outcome.OutFault; is_last = inl refl; fronts = no_fronts; ends = inl (refl, refl, refl) }
 
 -- no other is without one
 pub closes_unsaid : (told : Type 0) (a : State) (status : Status) → last_call status ≡ [] → Closing told a a status status
@@ -65,8 +77,11 @@ is_unfailed outcome.OutFault call = cc call
 -- a last line was said
 pub closes_said : {T E told : Type 0} {line : Bytes} {a b : State} {v : T} (status last : Status) → IsLast status last → is_out_fault status ≡ false → last_call last ≡ Say (last_line last) ∷ [] → line ≡ last_line last
     → Spoke {T = T} {E = E} told line a b (Ok v) → Closing told a b status last
-closes_said {a = a} status last is_last unfailed call is spoke = record {
+closes_said {told} {a = a} {b = b} status last is_last unfailed call is spoke = record {
   dirs = touched_spoke spoke;
+  last = last;
+  is_last = is_last;
+  fronts = subst (λ (text : Bytes). SaysFronts told a b text) is (spoke_fronts spoke);
   ends = inr (
     unfailed,
     inl (record {
@@ -83,8 +98,11 @@ closes_said {a = a} status last is_last unfailed call is spoke = record {
 -- the output failed over it
 pub closes_cut : {T E told : Type 0} {line : Bytes} {a b : State} {e : E} (status last : Status) → IsLast status last → is_out_fault status ≡ false → last_call last ≡ Say (last_line last) ∷ [] → line ≡ last_line last
     → Spoke {T = T} {E = E} told line a b (Err e) → Closing told a b status outcome.OutFault
-closes_cut {line = line} status last is_last unfailed call is spoke = record {
+closes_cut {told} {line = line} {a = a} {b = b} status last is_last unfailed call is spoke = record {
   dirs = touched_spoke spoke;
+  last = last;
+  is_last = is_last;
+  fronts = subst (λ (text : Bytes). SaysFronts told a b text) is (spoke_fronts spoke);
   ends = inr (
     unfailed,
     inr (record {

@@ -21,7 +21,7 @@ use Rattle.nn_server.specs.Dry.{DryRan}
 use Rattle.nn_server.specs.Codes.{dry_status}
 use Rattle.nn_server.specs.Format.{FreshOrAsked, FormatDid, FormatRan, format_failed, format_status}
 use Rattle.nn_server.proofs.FormatLemmas.{asked_left}
-use Rattle.nn_top.specs.Did.{Ended}
+use Rattle.nn_top.specs.Ended.{Ended}
 use Rattle.nn_top.specs.Closes.{Closing}
 use Rattle.nn_top.proofs.ClosesLemmas.{closes_after}
 

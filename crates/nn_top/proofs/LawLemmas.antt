@@ -1,21 +1,25 @@
 -- What follows from how words are read.
-use Rattle.std.proofs.Common.{◌≡◌, ◌≢◌, ◌⊎◌, ◌≤◌, Bool, true, false, not, ◌&&◌, List, [], ◌∷◌, ◌++◌, length, map, codes, Some, None, option_and_then, if◌then◌else◌, inl, inr, ⊎_elim, refl, sym, ap, ◌∙◌, subst, append_assoc, length-append, ◌+◌, arith}
+use Rattle.std.proofs.Common.{◌≡◌, ◌≢◌, ◌≤◌, Bool, true, false, not, ◌&&◌, List, [], ◌∷◌, ◌++◌, length, map, codes, Some, None, if◌then◌else◌, inl, inr, ⊎_elim, refl, sym, ap, ◌∙◌, subst, append_assoc, length-append, ◌+◌, arith}
 use Rattle.std.specs.List.{list_all}
 use Rattle.std.specs.Str.{bytes_eq}
-use Rattle.std.proofs.lemmas.Bool.{cases_Bool, true≢false, false≢true, and_parts, and_from, and_left, and_right, or_cases}
+use Rattle.std.proofs.lemmas.Bool.{cases_Bool, true≢false, false≢true, and_parts, and_from, and_left, and_right}
 use Rattle.std.proofs.lemmas.Grind.{flat_map-append}
 use Rattle.std.proofs.lemmas.List.{append-nil}
 use Rattle.std.proofs.lemmas.List.Folds.{list_all-append}
 use Rattle.std.proofs.lemmas.Slice.Eq.{bytes_eq-Decides}
-use Rattle.nn_top.specs.Words.{Word, is_plain, can_stand_apart, is_among, are_dirs}
+use Rattle.nn_top.specs.declared.words.options.OptionName.{OptionName}
+use Rattle.nn_top.specs.declared.words.options.OptionName.TheVariants.{Cluster, Namespace, At}
+use Rattle.nn_top.specs.Words.{Word, is_plain, can_stand_apart, is_among}
 use Rattle.nn_top.specs.Parts.{Part, Given, Dir, Mark, Stray, joined_in, parts_of, is_dir, is_known, no_dirs, follow, stand_together, is_line, dir_in, dirs_among, value_in, values_of}
 use Rattle.nn_top.specs.Wanted.{Wanted, dirs_in}
-use Rattle.nn_top.specs.Commands.{once, cluster_in, format_in, format_options, wanted_by, HaveNoReading}
-use Rattle.nn_top.specs.FormatWords.{BeginWith, begins}
+use Rattle.nn_top.specs.Commands.{states_in, dry_in, format_in, format_options, run_in, run_options, options_of, wanted_by, HaveNoReading}
+use Rattle.nn_top.specs.Begins.{BeginWith, begins}
+use Rattle.nn_top.specs.Options.{text_of, texts_of, IsTaken}
 use Rattle.nn_top.specs.Laws.{IsOption, is_unmarked}
 use Rattle.nn_top.proofs.PartsLemmas.{plain_first, mark_first, follow_none, dirless, marked_line}
-use Rattle.nn_top.proofs.ReadingLemmas.{read_by, unread_by}
-use Rattle.nn_top.proofs.FormatWordsLemmas.{begins_cluster, begins_namespace, once_of_two, no_number, either_none}
+use Rattle.nn_top.proofs.NamesLemmas.{among_names, begins_option}
+use Rattle.nn_top.proofs.ReadingLemmas.{Called, a_state, a_format, a_dry, a_run, no_command, called, read_by, unread_by}
+use Rattle.nn_top.proofs.AskedLemmas.{cluster_twice, namespace_twice, at_twice}
 
 -- ---- words in front
 
@@ -53,44 +57,67 @@ parts_before names (first ∷ next ∷ front) word rest unmarked whole = ⊎_eli
 marked_parts : (names front dirs : List Word) → is_unmarked front ≡ true → parts_of names (front ++ codes "--" ∷ dirs) ≡ parts_of names front ++ (Mark ∷ map Dir dirs)
 marked_parts names front dirs unmarked = parts_before names front (codes "--") dirs unmarked refl ∙ ap (λ ps. parts_of names front ++ ps) (mark_first names dirs)
 
-which_option : (option : Word) → IsOption option → (option ≡ codes "--cluster") ⊎ (option ≡ codes "--namespace")
-which_option option among = ⊎_elim
-    (λ (y : bytes_eq option (codes "--cluster") ≡ true). inl ((bytes_eq-Decides option (codes "--cluster")).0 y))
-    (λ (later : is_among (codes "--namespace" ∷ []) option ≡ true). ⊎_elim
-    (λ (y : bytes_eq option (codes "--namespace") ≡ true). inr ((bytes_eq-Decides option (codes "--namespace")).0 y))
-    (λ (no : false ≡ true). absurd (false≢true no))
-    (or_cases (bytes_eq option (codes "--namespace")) false later))
-    (or_cases (bytes_eq option (codes "--cluster")) (is_among (codes "--namespace" ∷ []) option) among)
+-- the options of a command, by their names
+names_of : (command : Word) → (names : List OptionName) × (options_of command ≡ texts_of names)
+names_of command = ⊎_elim
+    (λ (format : bytes_eq command (codes "format") ≡ true). (Cluster ∷ Namespace ∷ [], rw format refl))
+    (λ (other : bytes_eq command (codes "format") ≡ false). ⊎_elim
+    (λ (run : bytes_eq command (codes "run") ≡ true). (At ∷ [], rw other (rw run refl)))
+    (λ (none : bytes_eq command (codes "run") ≡ false). ([], rw other (rw none refl)))
+    (cases_Bool (bytes_eq command (codes "run"))))
+    (cases_Bool (bytes_eq command (codes "format")))
 
-pub option_first : (option value : Word) (words rest : List Word) → IsOption option → BeginWith words option value rest → parts_of format_options words ≡ Given option value ∷ parts_of format_options rest
-option_first option value words rest is begin = ⊎_elim
-    (λ (cluster : option ≡ codes "--cluster"). rw cluster (begins_cluster words value rest (subst (λ o. BeginWith words o value rest) cluster begin)))
-    (λ (namespace : option ≡ codes "--namespace"). rw namespace (begins_namespace words value rest (subst (λ o. BeginWith words o value rest) namespace begin)))
-    (which_option option is)
+pub option_first : (command option value : Word) (words rest : List Word) → IsOption command option → BeginWith words option value rest → parts_of (options_of command) words ≡ Given option value ∷ parts_of (options_of command) rest
+option_first command option value words rest is begin =
+    let names = names_of command in
+    let found = among_names names.0 option (subst (λ ns. is_among ns option ≡ true) names.1 is) in
+    let first = begins_option names.0 found.0 words value rest found.2 (subst (λ o. BeginWith words o value rest) found.1 begin) in
+    subst (λ ns. parts_of ns words ≡ Given option value ∷ parts_of ns rest) (sym names.1) (first ∙ ap (λ o. Given o value ∷ parts_of (texts_of names.0) rest) (sym found.1))
 
-dashed : (option : Word) (later : Word) → IsOption option → can_stand_apart (option ++ later) ≡ false
-dashed option later is = ⊎_elim
-    (λ (cluster : option ≡ codes "--cluster"). rw cluster refl)
-    (λ (namespace : option ≡ codes "--namespace"). rw namespace refl)
-    (which_option option is)
+dashed_name : (name : OptionName) (later : Word) → can_stand_apart (text_of name ++ later) ≡ false
+dashed_name Cluster later = refl
+dashed_name Namespace later = refl
+dashed_name At later = refl
 
-joined_parts : (front rest : List Word) (option value : Word) → IsOption option → is_unmarked front ≡ true
-    → parts_of format_options (front ++ ((option ++ codes "=") ++ value) ∷ rest) ≡ parts_of format_options front ++ (Given option value ∷ parts_of format_options rest)
-joined_parts front rest option value is unmarked =
-    parts_before format_options front ((option ++ codes "=") ++ value) rest unmarked (ap can_stand_apart (append_assoc option (codes "=") value) ∙ dashed option (codes "=" ++ value) is)
-    ∙ ap (λ ps. parts_of format_options front ++ ps) (option_first option value (((option ++ codes "=") ++ value) ∷ rest) rest is (inl refl))
+dashed : (command option later : Word) → IsOption command option → can_stand_apart (option ++ later) ≡ false
+dashed command option later is =
+    let names = names_of command in
+    let found = among_names names.0 option (subst (λ ns. is_among ns option ≡ true) names.1 is) in
+    ap (λ o. can_stand_apart (o ++ later)) found.1 ∙ dashed_name found.0 later
 
-apart_parts : (front rest : List Word) (option value : Word) → IsOption option → is_unmarked front ≡ true → can_stand_apart value ≡ true
-    → parts_of format_options (front ++ option ∷ value ∷ rest) ≡ parts_of format_options front ++ (Given option value ∷ parts_of format_options rest)
-apart_parts front rest option value is unmarked apart =
-    parts_before format_options front option (value ∷ rest) unmarked (ap can_stand_apart (sym (append-nil option)) ∙ dashed option [] is)
-    ∙ ap (λ ps. parts_of format_options front ++ ps) (option_first option value (option ∷ value ∷ rest) rest is (inr (refl, apart)))
+joined_parts : (command : Word) (front rest : List Word) (option value : Word) → IsOption command option → is_unmarked front ≡ true
+    → parts_of (options_of command) (front ++ ((option ++ codes "=") ++ value) ∷ rest) ≡ parts_of (options_of command) front ++ (Given option value ∷ parts_of (options_of command) rest)
+joined_parts command front rest option value is unmarked =
+    parts_before (options_of command) front ((option ++ codes "=") ++ value) rest unmarked (ap can_stand_apart (append_assoc option (codes "=") value) ∙ dashed command option (codes "=" ++ value) is)
+    ∙ ap (λ ps. parts_of (options_of command) front ++ ps) (option_first command option value (((option ++ codes "=") ++ value) ∷ rest) rest is (inl refl))
+
+apart_parts : (command : Word) (front rest : List Word) (option value : Word) → IsOption command option → is_unmarked front ≡ true → can_stand_apart value ≡ true
+    → parts_of (options_of command) (front ++ option ∷ value ∷ rest) ≡ parts_of (options_of command) front ++ (Given option value ∷ parts_of (options_of command) rest)
+apart_parts command front rest option value is unmarked apart =
+    parts_before (options_of command) front option (value ∷ rest) unmarked (ap can_stand_apart (sym (append-nil option)) ∙ dashed command option [] is)
+    ∙ ap (λ ps. parts_of (options_of command) front ++ ps) (option_first command option value (option ∷ value ∷ rest) rest is (inr (refl, apart)))
 
 -- ---- options
 
-pub read_alike : (front rest : List Word) (option value : Word) → IsOption option → is_unmarked front ≡ true → can_stand_apart value ≡ true
-    → wanted_by (codes "format" ∷ (front ++ ((option ++ codes "=") ++ value) ∷ rest)) ≡ wanted_by (codes "format" ∷ (front ++ option ∷ value ∷ rest))
-read_alike front rest option value is unmarked apart = ap format_in (joined_parts front rest option value is unmarked ∙ sym (apart_parts front rest option value is unmarked apart))
+-- words of the same parts ask for the same
+same_parts : (command : Word) (words other : List Word) → parts_of (options_of command) words ≡ parts_of (options_of command) other → wanted_by (command ∷ words) ≡ wanted_by (command ∷ other)
+same_parts command words other same = by (called command)
+  where
+    at : (c : Word) → command ≡ c → parts_of (options_of c) words ≡ parts_of (options_of c) other
+    at c is = subst (λ d. parts_of (options_of d) words ≡ parts_of (options_of d) other) is same
+
+    by : Called command → wanted_by (command ∷ words) ≡ wanted_by (command ∷ other)
+    by (a_state is) = subst (λ c. wanted_by (c ∷ words) ≡ wanted_by (c ∷ other)) (sym is) (ap states_in (at (codes "state") is))
+    by (a_format is) = subst (λ c. wanted_by (c ∷ words) ≡ wanted_by (c ∷ other)) (sym is) (ap format_in (at (codes "format") is))
+    by (a_dry is) = subst (λ c. wanted_by (c ∷ words) ≡ wanted_by (c ∷ other)) (sym is) (ap dry_in (at (codes "dry") is))
+    by (a_run is) = subst (λ c. wanted_by (c ∷ words) ≡ wanted_by (c ∷ other)) (sym is) (ap run_in (at (codes "run") is))
+    by (no_command none) = none words ∙ sym (none other)
+
+pub read_alike : (command option value : Word) (front rest : List Word) → IsOption command option → is_unmarked front ≡ true → can_stand_apart value ≡ true
+    → wanted_by (command ∷ (front ++ ((option ++ codes "=") ++ value) ∷ rest)) ≡ wanted_by (command ∷ (front ++ option ∷ value ∷ rest))
+read_alike command option value front rest is unmarked apart =
+    same_parts command (front ++ ((option ++ codes "=") ++ value) ∷ rest) (front ++ option ∷ value ∷ rest)
+    (joined_parts command front rest option value is unmarked ∙ sym (apart_parts command front rest option value is unmarked apart))
 
 -- an option that is given a value twice
 values_more : (option : Word) (front : List Part) (value : Word) (rest : List Part) → length (values_of option (front ++ (Given option value ∷ rest))) ≡ length (values_of option front) + (1 + length (values_of option rest))
@@ -102,24 +129,44 @@ twice_values : (option one other : Word) (front middle rest : List Part) → 2 �
 twice_values option one other front middle rest =
     omega (arith, values_more option front one (middle ++ (Given option other ∷ rest)), values_more option middle other rest)
 
-twice_none : (option : Word) (parts : List Part) → IsOption option → 2 ≤ length (values_of option parts) → format_in parts ≡ None
-twice_none option parts is twice = ⊎_elim
-    (λ (cluster : option ≡ codes "--cluster").
-    let none : once (values_of (codes "--cluster") parts) ≡ None = once_of_two (values_of (codes "--cluster") parts) (subst (λ o. 2 ≤ length (values_of o parts)) cluster twice) in
-    either_none (is_line parts && are_dirs (dirs_among parts)) _ (rw none refl))
-    (λ (namespace : option ≡ codes "--namespace").
-    let none : once (values_of (codes "--namespace") parts) ≡ None = once_of_two (values_of (codes "--namespace") parts) (subst (λ o. 2 ≤ length (values_of o parts)) namespace twice) in
-    either_none (is_line parts && are_dirs (dirs_among parts)) _ (rw none (no_number (option_and_then cluster_in (once (values_of (codes "--cluster") parts))) (dirs_among parts))))
-    (which_option option is)
+twice_none : (command option : Word) (words : List Word) → IsOption command option → 2 ≤ length (values_of option (parts_of (options_of command) words)) → HaveNoReading (command ∷ words)
+twice_none command option words is twice = by (called command)
+  where
+    at : (c : Word) → command ≡ c → IsOption c option × (2 ≤ length (values_of option (parts_of (options_of c) words)))
+    at c e = subst (λ d. IsOption d option × (2 ≤ length (values_of option (parts_of (options_of d) words)))) e (is, twice)
 
-pub twice_unread : (front middle rest : List Word) (option one other : Word) → IsOption option → is_unmarked front ≡ true → is_unmarked middle ≡ true
-    → HaveNoReading (codes "format" ∷ (front ++ ((option ++ codes "=") ++ one) ∷ (middle ++ ((option ++ codes "=") ++ other) ∷ rest)))
-twice_unread front middle rest option one other is unmarked unmarked' =
-    let parts = joined_parts front (middle ++ ((option ++ codes "=") ++ other) ∷ rest) option one is unmarked in
-    let later = joined_parts middle rest option other is unmarked' in
-    ap format_in (parts ∙ ap (λ ps. parts_of format_options front ++ (Given option one ∷ ps)) later)
-    ∙ twice_none option (parts_of format_options front ++ (Given option one ∷ (parts_of format_options middle ++ (Given option other ∷ parts_of format_options rest)))) is
-    (twice_values option one other (parts_of format_options front) (parts_of format_options middle) (parts_of format_options rest))
+    of_format : (name : OptionName) → option ≡ text_of name → IsTaken (Cluster ∷ Namespace ∷ []) name → 2 ≤ length (values_of option (parts_of format_options words)) → format_in (parts_of format_options words) ≡ None
+    of_format Cluster e taken two = cluster_twice (parts_of format_options words) (subst (λ o. 2 ≤ length (values_of o (parts_of format_options words))) e two)
+    of_format Namespace e taken two = namespace_twice (parts_of format_options words) (subst (λ o. 2 ≤ length (values_of o (parts_of format_options words))) e two)
+    of_format At e taken two = absurd (false≢true taken)
+
+    of_run : (name : OptionName) → option ≡ text_of name → IsTaken (At ∷ []) name → 2 ≤ length (values_of option (parts_of run_options words)) → run_in (parts_of run_options words) ≡ None
+    of_run Cluster e taken two = absurd (false≢true taken)
+    of_run Namespace e taken two = absurd (false≢true taken)
+    of_run At e taken two = at_twice (parts_of run_options words) (subst (λ o. 2 ≤ length (values_of o (parts_of run_options words))) e two)
+
+    by : Called command → HaveNoReading (command ∷ words)
+    by (a_state e) = absurd (false≢true (at (codes "state") e).0)
+    by (a_format e) =
+        let both = at (codes "format") e in
+        let found = among_names (Cluster ∷ Namespace ∷ []) option both.0 in
+        subst (λ c. HaveNoReading (c ∷ words)) (sym e) (of_format found.0 found.1 found.2 both.1)
+    by (a_dry e) = absurd (false≢true (at (codes "dry") e).0)
+    by (a_run e) =
+        let both = at (codes "run") e in
+        let found = among_names (At ∷ []) option both.0 in
+        subst (λ c. HaveNoReading (c ∷ words)) (sym e) (of_run found.0 found.1 found.2 both.1)
+    by (no_command none) = none words
+
+pub twice_unread : (command option one other : Word) (front middle rest : List Word) → IsOption command option → is_unmarked front ≡ true → is_unmarked middle ≡ true
+    → HaveNoReading (command ∷ (front ++ ((option ++ codes "=") ++ one) ∷ (middle ++ ((option ++ codes "=") ++ other) ∷ rest)))
+twice_unread command option one other front middle rest is unmarked unmarked' =
+    let names = options_of command in
+    let parts = joined_parts command front (middle ++ ((option ++ codes "=") ++ other) ∷ rest) option one is unmarked in
+    let later = joined_parts command middle rest option other is unmarked' in
+    let all = parts ∙ ap (λ ps. parts_of names front ++ (Given option one ∷ ps)) later in
+    twice_none command option (front ++ ((option ++ codes "=") ++ one) ∷ (middle ++ ((option ++ codes "=") ++ other) ∷ rest)) is
+    (subst (λ ps. 2 ≤ length (values_of option ps)) (sym all) (twice_values option one other (parts_of names front) (parts_of names middle) (parts_of names rest)))
 
 -- ---- directories
 
@@ -155,23 +202,28 @@ later_dir dir front plain unmarked = and_from (not (bytes_eq dir (codes "--"))) 
     by true e = let is : dir ≡ codes "--" = (bytes_eq-Decides dir (codes "--")).0 e in absurd (false≢true (ap is_plain (sym is) ∙ plain))
 
 pub mark_between : (command dir other : Word) (front dirs : List Word) → is_plain dir ≡ true → is_unmarked front ≡ true → HaveNoReading (command ∷ dir ∷ (front ++ codes "--" ∷ other ∷ dirs))
-mark_between command dir other front dirs plain unmarked = unread_by command (dir ∷ (front ++ codes "--" ∷ other ∷ dirs)) (λ names taken.
-    ap is_line (marked_parts names (dir ∷ front) (other ∷ dirs) (later_dir dir front plain unmarked))
+mark_between command dir other front dirs plain unmarked =
+    let names = options_of command in
+    unread_by command (dir ∷ (front ++ codes "--" ∷ other ∷ dirs))
+    (ap is_line (marked_parts names (dir ∷ front) (other ∷ dirs) (later_dir dir front plain unmarked))
     ∙ separated_line (parts_of names (dir ∷ front)) (Mark ∷ map Dir (other ∷ dirs)) (begins_with_dir names dir front plain) refl refl)
 
-pub option_between : (dir other option value : Word) (front rest : List Word) → is_plain dir ≡ true → is_plain other ≡ true → IsOption option → is_unmarked front ≡ true
-    → HaveNoReading (codes "format" ∷ dir ∷ (front ++ ((option ++ codes "=") ++ value) ∷ other ∷ rest))
-option_between dir other option value front rest plain plain' is unmarked =
-    let parts = joined_parts (dir ∷ front) (other ∷ rest) option value is (later_dir dir front plain unmarked) in
-    let broken = separated_line (parts_of format_options (dir ∷ front)) (Given option value ∷ parts_of format_options (other ∷ rest)) (begins_with_dir format_options dir front plain) refl (begins_with_dir format_options other rest plain') in
-    ap format_in parts ∙ rw broken refl
+pub option_between : (command dir other option value : Word) (front rest : List Word) → is_plain dir ≡ true → is_plain other ≡ true → IsOption command option → is_unmarked front ≡ true
+    → HaveNoReading (command ∷ dir ∷ (front ++ ((option ++ codes "=") ++ value) ∷ other ∷ rest))
+option_between command dir other option value front rest plain plain' is unmarked =
+    let names = options_of command in
+    let parts = joined_parts command (dir ∷ front) (other ∷ rest) option value is (later_dir dir front plain unmarked) in
+    unread_by command (dir ∷ (front ++ ((option ++ codes "=") ++ value) ∷ other ∷ rest))
+    (ap is_line parts
+    ∙ separated_line (parts_of names (dir ∷ front)) (Given option value ∷ parts_of names (other ∷ rest)) (begins_with_dir names dir front plain) refl (begins_with_dir names other rest plain'))
 
 pub behind_mark : (command : Word) (front dirs : List Word) (wanted : Wanted) → is_unmarked front ≡ true → dirs ≢ [] → wanted_by (command ∷ (front ++ codes "--" ∷ dirs)) ≡ Some wanted → dirs_in wanted ≡ dirs
 behind_mark command front [] wanted unmarked some asks = absurd (some refl)
 behind_mark command front (dir ∷ dirs) wanted unmarked some asks =
     let read = read_by command (front ++ codes "--" ∷ dir ∷ dirs) wanted asks in
-    let before = parts_of read.names front in
-    let parts = marked_parts read.names front (dir ∷ dirs) unmarked in
+    let names = options_of command in
+    let before = parts_of names front in
+    let parts = marked_parts names front (dir ∷ dirs) unmarked in
     let line : is_line (before ++ (Mark ∷ map Dir (dir ∷ dirs))) ≡ true = ap is_line (sym parts) ∙ read.line in
     read.dirs ∙ (ap dirs_among parts ∙ ⊎_elim
     (λ (none : no_dirs before ≡ true). flat_map-append dir_in before (Mark ∷ map Dir (dir ∷ dirs)) ∙ (ap (λ ds. ds ++ dirs_among (map Dir (dir ∷ dirs))) (dirless before none).dirs ∙ (marked_line (dir ∷ dirs)).1))
@@ -194,12 +246,10 @@ stray_line front back =
     and_left (list_all is_known (front ++ (Stray ∷ back))) (stand_together (front ++ (Stray ∷ back)))
     (list_all-append is_known front (Stray ∷ back) ∙ and_right (list_all is_known front) false refl)
 
-pub other_unread : (command word : Word) (front rest : List Word) → is_unmarked front ≡ true → is_plain word ≡ false → bytes_eq word (codes "--") ≡ false → is_among format_options word ≡ false → joined_in format_options word ≡ Stray
+pub other_unread : (command word : Word) (front rest : List Word) → is_unmarked front ≡ true → is_plain word ≡ false → bytes_eq word (codes "--") ≡ false → is_among (options_of command) word ≡ false → joined_in (options_of command) word ≡ Stray
     → HaveNoReading (command ∷ (front ++ word ∷ rest))
-other_unread command word front rest unmarked unplain no_mark other stray = unread_by command (front ++ word ∷ rest) (λ names taken.
+other_unread command word front rest unmarked unplain no_mark other stray =
+    let names = options_of command in
     let parts = parts_before names front word rest unmarked (no_stand word unplain) in
-    ap is_line (parts ∙ ap (λ ps. parts_of names front ++ ps) (by names taken)) ∙ stray_line (parts_of names front) (parts_of names rest))
-  where
-    by : (names : List Word) → (names ≡ []) ⊎ (names ≡ format_options) → parts_of names (word ∷ rest) ≡ Stray ∷ parts_of names rest
-    by names (inl none) = stray_parts names word rest unplain no_mark (rw none refl) (rw none refl)
-    by names (inr both) = stray_parts names word rest unplain no_mark (rw both other) (rw both stray)
+    unread_by command (front ++ word ∷ rest)
+    (ap is_line (parts ∙ ap (λ ps. parts_of names front ++ ps) (stray_parts names word rest unplain no_mark other stray)) ∙ stray_line (parts_of names front) (parts_of names rest))

@@ -1,11 +1,14 @@
 pub mod WordsLemmas
 pub mod PartsLemmas
 pub mod OptionsLemmas
-pub mod FormatWordsLemmas
+pub mod NamesLemmas
+pub mod ReadLineLemmas
+pub mod AskedLemmas
 pub mod ReadingLemmas
 pub mod LawLemmas
 pub mod LineLemmas
 pub mod SpelledLemmas
 pub mod ClosesLemmas
 pub mod DidLemmas
+pub mod RunLemmas
 pub mod UsageLemmas

@@ -1,5 +1,5 @@
 -- What follows for whole lines, and for the directories of a reading.
-use Rattle.std.proofs.Common.{suc, All, nat_le, ◌≡◌, ◌≢◌, ◌⊎◌, Bool, true, false, not, ◌&&◌, ◌||◌, List, [], ◌∷◌, ◌++◌, length, map, codes, Some, None, if◌then◌else◌, inl, inr, ⊎_elim, refl, sym, ap, ◌∙◌, append_assoc, arith}
+use Rattle.std.proofs.Common.{suc, All, nat_le, ◌≡◌, ◌≢◌, ◌⊎◌, Bool, true, false, not, ◌&&◌, ◌||◌, List, [], ◌∷◌, ◌++◌, length, map, codes, Some, None, if◌then◌else◌, inl, inr, ⊎_elim, refl, sym, ap, ◌∙◌, append_assoc, subst, arith}
 use Rattle.std.specs.List.{AllPairs, list_all}
 use Rattle.std.specs.Str.{bytes_eq}
 use Rattle.std.proofs.lemmas.Bool.{true≢false, false≢true, and_from, and_parts, le-leb, leb-true, or_from, or_parts}
@@ -12,33 +12,34 @@ use Rattle.nn_base.specs.Limits.{most_dirs}
 use Rattle.nn_top.specs.Words.{Word, is_plain, can_stand_apart, is_among, is_named, are_distinct, are_dirs}
 use Rattle.nn_top.specs.Parts.{Part, Given, Dir, Mark, parts_of, is_line, dirs_among, value_in, values_of}
 use Rattle.nn_top.specs.Wanted.{Wanted, dirs_in}
-use Rattle.nn_top.specs.Commands.{format_in, format_options, wanted_by}
-use Rattle.nn_top.specs.FormatWords.{BeginWith, IsEnd, is_given}
-use Rattle.nn_top.specs.Laws.{AreDirs, GivenOption, can_be_given, words_of, spelling, values_in, format_with}
+use Rattle.nn_top.specs.Commands.{format_in, format_options, run_in, run_options, options_of, wanted_by}
+use Rattle.nn_top.specs.Begins.{BeginWith, IsEnd, is_given}
+use Rattle.nn_top.specs.Laws.{AreDirs, GivenOption, can_be_given, words_of, spelling, values_in, TakesOptions, format_with, run_with, asked_with}
 use Rattle.nn_top.proofs.PartsLemmas.{mark_first, plain_parts, ended, line_of_dirs, marked_line, named, skipped, skipped_line}
 use Rattle.nn_top.proofs.LawLemmas.{not_not, option_first}
 use Rattle.nn_top.proofs.ReadingLemmas.{read_by}
 
--- ---- whole lines of `format`
+-- ---- whole lines of options and directories
 
 abbrev pub part_for : GivenOption → Part
 part_for choice = Given choice.name choice.value
 
-begin_choice : (choice : GivenOption) (rest : List Word) → can_be_given choice ≡ true → BeginWith (words_of choice ++ rest) choice.name choice.value rest
-begin_choice choice rest is = by choice.is_joined refl
+begin_choice : (command : Word) (choice : GivenOption) (rest : List Word) → can_be_given command choice ≡ true → BeginWith (words_of choice ++ rest) choice.name choice.value rest
+begin_choice command choice rest is = by choice.is_joined refl
   where
     by : (joined : Bool) → choice.is_joined ≡ joined → BeginWith (words_of choice ++ rest) choice.name choice.value rest
     by true e = inl (rw e refl)
-    by false e = inr (rw e refl, ap (λ b. b || can_stand_apart choice.value) (sym e) ∙ (and_parts (is_among format_options choice.name) (choice.is_joined || can_stand_apart choice.value) is).1)
+    by false e = inr (rw e refl, ap (λ b. b || can_stand_apart choice.value) (sym e) ∙ (and_parts (is_among (options_of command) choice.name) (choice.is_joined || can_stand_apart choice.value) is).1)
 
-pub choices_parts : (choices : List GivenOption) (rest : List Word) → list_all can_be_given choices ≡ true → parts_of format_options (spelling choices ++ rest) ≡ map part_for choices ++ parts_of format_options rest
-choices_parts [] rest all = refl
-choices_parts (choice ∷ choices) rest all =
-    let parts = and_parts (can_be_given choice) (list_all can_be_given choices) all in
-    let is = (and_parts (is_among format_options choice.name) (choice.is_joined || can_stand_apart choice.value) parts.0).0 in
-    ap (parts_of format_options) (append_assoc (words_of choice) (spelling choices) rest)
-    ∙ (option_first choice.name choice.value (words_of choice ++ (spelling choices ++ rest)) (spelling choices ++ rest) is (begin_choice choice (spelling choices ++ rest) parts.0)
-    ∙ ap (λ ps. part_for choice ∷ ps) (choices_parts choices rest parts.1))
+pub choices_parts : (command : Word) (choices : List GivenOption) (rest : List Word) → list_all (can_be_given command) choices ≡ true
+    → parts_of (options_of command) (spelling choices ++ rest) ≡ map part_for choices ++ parts_of (options_of command) rest
+choices_parts command [] rest all = refl
+choices_parts command (choice ∷ choices) rest all =
+    let parts = and_parts (can_be_given command choice) (list_all (can_be_given command) choices) all in
+    let is = (and_parts (is_among (options_of command) choice.name) (choice.is_joined || can_stand_apart choice.value) parts.0).0 in
+    ap (parts_of (options_of command)) (append_assoc (words_of choice) (spelling choices) rest)
+    ∙ (option_first command choice.name choice.value (words_of choice ++ (spelling choices ++ rest)) (spelling choices ++ rest) is (begin_choice command choice (spelling choices ++ rest) parts.0)
+    ∙ ap (λ ps. part_for choice ∷ ps) (choices_parts command choices rest parts.1))
 
 pub all_given : (choices : List GivenOption) → list_all is_given (map part_for choices) ≡ true
 all_given [] = refl
@@ -48,38 +49,55 @@ choice_values : (option : Word) (choices : List GivenOption) → values_of optio
 choice_values option [] = refl
 choice_values option (choice ∷ choices) = ap (λ vs. (if bytes_eq choice.name option then choice.value ∷ [] else []) ++ vs) (choice_values option choices)
 
+-- a line of these directories and values asks for this
+abbrev pub AsksWith : Word → Type 0
+AsksWith command = (words : List Word) (choices : List GivenOption) (dirs : List Word) → is_line (parts_of (options_of command) words) ≡ true → dirs_among (parts_of (options_of command) words) ≡ dirs
+    → ((option : Word) → values_of option (parts_of (options_of command) words) ≡ values_in option choices) → wanted_by (command ∷ words) ≡ asked_with command choices dirs
+
 format_line : (parts : List Part) (choices : List GivenOption) (dirs : List Word) → is_line parts ≡ true → dirs_among parts ≡ dirs → ((option : Word) → values_of option parts ≡ values_in option choices) → format_in parts ≡ format_with choices dirs
 format_line parts choices dirs line is values = rw line (rw is (rw (values (codes "--cluster")) (rw (values (codes "--namespace")) refl)))
 
-pub marked_read : (choices : List GivenOption) (dirs : List Word) → list_all can_be_given choices ≡ true → wanted_by (codes "format" ∷ (spelling choices ++ codes "--" ∷ dirs)) ≡ format_with choices dirs
-marked_read choices dirs all =
+run_line : (parts : List Part) (choices : List GivenOption) (dirs : List Word) → is_line parts ≡ true → dirs_among parts ≡ dirs → ((option : Word) → values_of option parts ≡ values_in option choices) → run_in parts ≡ run_with choices dirs
+run_line parts choices dirs line is values = rw line (rw is (rw (values (codes "--at")) refl))
+
+asks_with : (command : Word) → TakesOptions command → AsksWith command
+asks_with command (inl is) = subst AsksWith (sym is) (λ words choices dirs line same values. format_line (parts_of format_options words) choices dirs line same values)
+asks_with command (inr is) = subst AsksWith (sym is) (λ words choices dirs line same values. run_line (parts_of run_options words) choices dirs line same values)
+
+pub marked_read : (command : Word) (choices : List GivenOption) (dirs : List Word) → TakesOptions command → list_all (can_be_given command) choices ≡ true → wanted_by (command ∷ (spelling choices ++ codes "--" ∷ dirs)) ≡ asked_with command choices dirs
+marked_read command choices dirs takes all =
+    let names = options_of command in
     let front = map part_for choices in
     let s = skipped front (Mark ∷ map Dir dirs) (all_given choices) in
-    ap format_in (choices_parts choices (codes "--" ∷ dirs) all ∙ ap (λ ps. front ++ ps) (mark_first format_options dirs))
-    ∙ format_line (front ++ (Mark ∷ map Dir dirs)) choices dirs
-    (skipped_line front (Mark ∷ map Dir dirs) (all_given choices) ∙ (marked_line dirs).0)
-    (s.dirs ∙ (marked_line dirs).1)
-    (λ option. flat_map-append (value_in option) front (Mark ∷ map Dir dirs) ∙ (ap (λ vs. values_of option front ++ vs) (ap (values_of option) (sym (append-nil (map Dir dirs))) ∙ (named dirs []).values option) ∙ (append-nil (values_of option front) ∙ choice_values option choices)))
+    let is = choices_parts command choices (codes "--" ∷ dirs) all ∙ ap (λ ps. front ++ ps) (mark_first names dirs) in
+    asks_with command takes (spelling choices ++ codes "--" ∷ dirs) choices dirs
+    (ap is_line is ∙ (skipped_line front (Mark ∷ map Dir dirs) (all_given choices) ∙ (marked_line dirs).0))
+    (ap dirs_among is ∙ (s.dirs ∙ (marked_line dirs).1))
+    (λ option.
+    ap (values_of option) is
+    ∙ (flat_map-append (value_in option) front (Mark ∷ map Dir dirs) ∙ (ap (λ vs. values_of option front ++ vs) (ap (values_of option) (sym (append-nil (map Dir dirs))) ∙ (named dirs []).values option) ∙ (append-nil (values_of option front) ∙ choice_values option choices))))
 
-pub plain_read_line : (front back : List GivenOption) (dirs end : List Word) → list_all can_be_given front ≡ true → list_all can_be_given back ≡ true → list_all is_plain dirs ≡ true → IsEnd end
-    → wanted_by (codes "format" ∷ (spelling front ++ (dirs ++ (spelling back ++ end)))) ≡ format_with (front ++ back) dirs
-plain_read_line front back dirs end all all' plain ends =
+pub plain_read_line : (command : Word) (front back : List GivenOption) (dirs end : List Word) → TakesOptions command → list_all (can_be_given command) front ≡ true → list_all (can_be_given command) back ≡ true → list_all is_plain dirs ≡ true → IsEnd end
+    → wanted_by (command ∷ (spelling front ++ (dirs ++ (spelling back ++ end)))) ≡ asked_with command (front ++ back) dirs
+plain_read_line command front back dirs end takes all all' plain ends =
+    let names = options_of command in
     let before = map part_for front in
     let behind = map part_for back in
-    let last = parts_of format_options end in
-    let e = ended format_options end ends in
+    let last = parts_of names end in
+    let e = ended names end ends in
     let s = skipped behind last (all_given back) in
     let line = line_of_dirs dirs (behind ++ last) (s.known ∙ e.0) (s.none ∙ e.1) in
-    ap format_in (choices_parts front (dirs ++ (spelling back ++ end)) all
-    ∙ ap (λ ps. before ++ ps) (plain_parts format_options dirs (spelling back ++ end) plain ∙ ap (λ ps. map Dir dirs ++ ps) (choices_parts back end all')))
-    ∙ format_line (before ++ (map Dir dirs ++ (behind ++ last))) (front ++ back) dirs
-    (skipped_line before (map Dir dirs ++ (behind ++ last)) (all_given front) ∙ line.0)
-    ((skipped before (map Dir dirs ++ (behind ++ last)) (all_given front)).dirs ∙ line.1)
+    let is = choices_parts command front (dirs ++ (spelling back ++ end)) all
+    ∙ ap (λ ps. before ++ ps) (plain_parts names dirs (spelling back ++ end) plain ∙ ap (λ ps. map Dir dirs ++ ps) (choices_parts command back end all')) in
+    asks_with command takes (spelling front ++ (dirs ++ (spelling back ++ end))) (front ++ back) dirs
+    (ap is_line is ∙ (skipped_line before (map Dir dirs ++ (behind ++ last)) (all_given front) ∙ line.0))
+    (ap dirs_among is ∙ ((skipped before (map Dir dirs ++ (behind ++ last)) (all_given front)).dirs ∙ line.1))
     (λ option.
-    flat_map-append (value_in option) before (map Dir dirs ++ (behind ++ last))
+    ap (values_of option) is
+    ∙ (flat_map-append (value_in option) before (map Dir dirs ++ (behind ++ last))
     ∙ (ap (λ vs. values_of option before ++ vs) ((named dirs (behind ++ last)).values option ∙ (flat_map-append (value_in option) behind last ∙ (ap (λ vs. values_of option behind ++ vs) (e.2 option) ∙ append-nil (values_of option behind))))
     ∙ (ap (λ vs. vs ++ values_of option behind) (choice_values option front) ∙ (ap (λ vs. values_in option front ++ vs) (choice_values option back)
-    ∙ sym (flat_map-append (λ choice. if bytes_eq choice.name option then choice.value ∷ [] else []) front back)))))
+    ∙ sym (flat_map-append (λ choice. if bytes_eq choice.name option then choice.value ∷ [] else []) front back))))))
 
 -- ---- the directories of a reading
 

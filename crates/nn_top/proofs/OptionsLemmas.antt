@@ -2,7 +2,7 @@
 use Rattle.std.proofs.Common.{◌≡◌, ◌≢◌, List, [], ◌∷◌, ◌++◌, codes, IsTrue, Option, Some, None, MatchOption, inl, inr, sym, ◌∙◌, append_assoc}
 use Rattle.std.proofs.lemmas.List.{append-nil}
 use Rattle.nn_top.specs.Words.{Word, can_stand_apart}
-use Rattle.nn_top.specs.FormatWords.{BeginWith}
+use Rattle.nn_top.specs.Begins.{BeginWith}
 
 -- a word that doesn't begin with the option
 pub no_BeginWith : (words later : List Word) (first option : Word) → words ≡ first ∷ later → ((ending : Word) → first ≢ option ++ ending) → (value : Word) (rest : List Word) → BeginWith words option value rest → ⊥

@@ -7,7 +7,7 @@ use Rattle.std.proofs.lemmas.List.{append-nil}
 use Rattle.std.proofs.lemmas.Slice.Eq.{bytes_eq-Decides}
 use Rattle.nn_top.specs.Words.{Word, is_plain, can_stand_apart, is_among}
 use Rattle.nn_top.specs.Parts.{Part, Given, Dir, Mark, Stray, behind, joined_in, parts_of, is_dir, is_known, no_dirs, follow, stand_together, is_line, dirs_among, values_of}
-use Rattle.nn_top.specs.FormatWords.{BeginWith, IsEnd, is_given, begins}
+use Rattle.nn_top.specs.Begins.{BeginWith, IsEnd, is_given, begins}
 
 -- ---- the first word of a line
 
@@ -41,7 +41,7 @@ behind_is (byte ∷ front) (first ∷ word) value e = ⊎_elim
     cc_on : {a b : ℕ} {xs ys : Word} → a ≡ b → xs ≡ ys → a ∷ xs ≡ b ∷ ys
     cc_on p q = cc
 
-is_itself : (word : Word) → bytes_eq word word ≡ true
+pub is_itself : (word : Word) → bytes_eq word word ≡ true
 is_itself word = (bytes_eq-Decides word word).1 refl
 
 -- a word is an option of a name, `=` and its value, or stray

@@ -1,15 +1,18 @@
 -- Lemmas on what words ask for.
-use Rattle.std.proofs.Common.{IsTrue, subst, ◌≡◌, ◌⊎◌, ◌≤◌, ℕ, Bool, true, false, ◌&&◌, nat_le, List, [], ◌∷◌, length, codes, Option, Some, None, option_and_then, if◌then◌else◌, inl, inr, ⊎_elim, refl, sym, ap, ◌∙◌, arith}
+use Rattle.std.proofs.Common.{IsTrue, subst, ◌≡◌, ◌⊎◌, ◌≤◌, ℕ, Bool, true, false, ◌&&◌, nat_le, nat_lt, ◌<◌, ◌^◌, List, [], ◌∷◌, length, codes, Option, Some, None, option_and_then, if◌then◌else◌, inl, inr, ⊎_elim, refl, sym, ap, ◌∙◌, arith}
 use Rattle.std.specs.List.{list_all}
 use Rattle.std.specs.Str.{bytes_eq}
-use Rattle.std.proofs.lemmas.Bool.{and_parts, leb-true, true≢false}
-use Rattle.nn_base.specs.Decimal.{number_in}
+use Rattle.std.proofs.lemmas.Bool.{and_parts, leb-true, ltb-true, true≢false}
+use Rattle.std.proofs.lemmas.Slice.Eq.{bytes_eq-Decides}
+use Rattle.nn_base.specs.Decimal.{is_number, number_in}
+use Rattle.std.specs.Char.{is_ascii_digit}
+use Rattle.std.specs.Str.Parse.{digits_value}
 use Rattle.nn_base.specs.Words.{is_word}
 use Rattle.nn_base.specs.Limits.{most_dirs}
 use Rattle.nn_top.specs.Words.{Word, is_named, are_distinct, are_dirs}
-use Rattle.nn_top.specs.Parts.{parts_of, is_line, no_dirs, dirs_among, values_of}
-use Rattle.nn_top.specs.Wanted.{Wanted, States, Format, Dry, dirs_in}
-use Rattle.nn_top.specs.Commands.{states_in, dry_in, once, cluster_in, namespace_of, namespace_in, format_for, format_in, format_options, wanted_by, HaveNoReading}
+use Rattle.nn_top.specs.Parts.{Part, parts_of, is_line, no_dirs, dirs_among, values_of}
+use Rattle.nn_top.specs.Wanted.{Wanted, States, Format, Dry, Run, dirs_in}
+use Rattle.nn_top.specs.Commands.{states_in, dry_in, once, cluster_in, namespace_of, namespace_in, format_for, format_in, format_options, at_in, run_for, run_in, run_options, options_of, wanted_by, HaveNoReading}
 use Rattle.nn_top.proofs.PartsLemmas.{dirless}
 
 -- words that ask for something have a reading
@@ -20,14 +23,31 @@ read_or_not words wanted asks none = let no : Some wanted ≡ None = sym asks �
 pub one_reading : (words : List Word) (one other : Wanted) → wanted_by words ≡ Some one → wanted_by words ≡ Some other → one ≡ other
 one_reading words one other asks asks' = let same : Some one ≡ Some other = sym asks ∙ asks' in cc
 
+-- ---- which command a word is
+
+pub data Called (command : Word) : Type 0 where
+  a_state : command ≡ codes "state" → Called command
+  a_format : command ≡ codes "format" → Called command
+  a_dry : command ≡ codes "dry" → Called command
+  a_run : command ≡ codes "run" → Called command
+  no_command : ((words : List Word) → HaveNoReading (command ∷ words)) → Called command
+
+pub called : (command : Word) → Called command
+called command = by (bytes_eq command (codes "state")) (bytes_eq command (codes "format")) (bytes_eq command (codes "dry")) (bytes_eq command (codes "run")) refl refl refl refl
+  where
+    by : (a b c d : Bool) → bytes_eq command (codes "state") ≡ a → bytes_eq command (codes "format") ≡ b → bytes_eq command (codes "dry") ≡ c → bytes_eq command (codes "run") ≡ d → Called command
+    by true b c d state format dry run = a_state ((bytes_eq-Decides command (codes "state")).0 state)
+    by false true c d state format dry run = a_format ((bytes_eq-Decides command (codes "format")).0 format)
+    by false false true d state format dry run = a_dry ((bytes_eq-Decides command (codes "dry")).0 dry)
+    by false false false true state format dry run = a_run ((bytes_eq-Decides command (codes "run")).0 run)
+    by false false false false state format dry run = no_command (λ words. rw state (rw format (rw dry (rw run refl))))
+
 -- ---- the parts of words with a reading
 
 -- words behind a command, and what they ask for
-pub record Read (words : List Word) (wanted : Wanted) : Type 0 where
-  pub names : List Word
-  pub taken : (names ≡ []) ⊎ (names ≡ format_options)
-  pub line : is_line (parts_of names words) ≡ true
-  pub dirs : dirs_in wanted ≡ dirs_among (parts_of names words)
+pub record Read (command : Word) (words : List Word) (wanted : Wanted) : Type 0 where
+  pub line : is_line (parts_of (options_of command) words) ≡ true
+  pub dirs : dirs_in wanted ≡ dirs_among (parts_of (options_of command) words)
   pub allowed : (are_dirs (dirs_in wanted) ≡ true) ⊎ (dirs_in wanted ≡ [])
 
 pub if_some : {A : Type 0} (test : Bool) (found : Option A) (x : A) → (if test then found else None) ≡ Some x → (test ≡ true) × (found ≡ Some x)
@@ -39,52 +59,66 @@ format_dirs None namespace dirs wanted e = let no : None ≡ Some wanted = e in 
 format_dirs (Some cluster) None dirs wanted e = let no : None ≡ Some wanted = e in cc
 format_dirs (Some cluster) (Some namespace) dirs wanted e = let same : Format cluster namespace dirs ≡ wanted = cc in ap dirs_in (sym same)
 
-read_with : (names words : List Word) (wanted : Wanted) → (names ≡ []) ⊎ (names ≡ format_options) → (is_line (parts_of names words) && are_dirs (dirs_among (parts_of names words))) ≡ true → dirs_in wanted ≡ dirs_among (parts_of names words) → Read words wanted
-read_with names words wanted taken test dirs =
-    let both = and_parts (is_line (parts_of names words)) (are_dirs (dirs_among (parts_of names words))) test in
-    record { names = names; taken = taken; line = both.0; dirs = dirs; allowed = inl (ap are_dirs dirs ∙ both.1) }
+run_dirs : (at : Option ℕ) (dirs : List Word) (wanted : Wanted) → run_for at dirs ≡ Some wanted → dirs_in wanted ≡ dirs
+run_dirs None dirs wanted e = let no : None ≡ Some wanted = e in cc
+run_dirs (Some at) dirs wanted e = let same : Run at dirs ≡ wanted = cc in ap dirs_in (sym same)
 
-read_states : (words : List Word) (wanted : Wanted) → states_in (parts_of [] words) ≡ Some wanted → Read words wanted
+read_with : (command : Word) (words : List Word) (wanted : Wanted) → (is_line (parts_of (options_of command) words) && are_dirs (dirs_among (parts_of (options_of command) words))) ≡ true → dirs_in wanted ≡ dirs_among (parts_of (options_of command) words) → Read command words wanted
+read_with command words wanted test dirs =
+    let parts = parts_of (options_of command) words in
+    let both = and_parts (is_line parts) (are_dirs (dirs_among parts)) test in
+    record { line = both.0; dirs = dirs; allowed = inl (ap are_dirs dirs ∙ both.1) }
+
+read_states : (words : List Word) (wanted : Wanted) → states_in (parts_of [] words) ≡ Some wanted → Read (codes "state") words wanted
 read_states words wanted asks =
     let dirs = dirs_among (parts_of [] words) in
     let test = if_some (is_line (parts_of [] words) && are_dirs dirs) (Some (States dirs)) wanted asks in
     let same : States dirs ≡ wanted = let e = test.1 in cc in
-    read_with [] words wanted (inl refl) test.0 (ap dirs_in (sym same))
+    read_with (codes "state") words wanted test.0 (ap dirs_in (sym same))
 
-read_format : (words : List Word) (wanted : Wanted) → format_in (parts_of format_options words) ≡ Some wanted → Read words wanted
+read_format : (words : List Word) (wanted : Wanted) → format_in (parts_of format_options words) ≡ Some wanted → Read (codes "format") words wanted
 read_format words wanted asks =
     let parts = parts_of format_options words in
     let cluster = option_and_then cluster_in (once (values_of (codes "--cluster") parts)) in
     let namespace = option_and_then namespace_in (once (values_of (codes "--namespace") parts)) in
     let test = if_some (is_line parts && are_dirs (dirs_among parts)) (format_for cluster namespace (dirs_among parts)) wanted asks in
-    read_with format_options words wanted (inr refl) test.0 (format_dirs cluster namespace (dirs_among parts) wanted test.1)
+    read_with (codes "format") words wanted test.0 (format_dirs cluster namespace (dirs_among parts) wanted test.1)
 
-read_dry : (words : List Word) (wanted : Wanted) → dry_in (parts_of [] words) ≡ Some wanted → Read words wanted
+read_run : (words : List Word) (wanted : Wanted) → run_in (parts_of run_options words) ≡ Some wanted → Read (codes "run") words wanted
+read_run words wanted asks =
+    let parts = parts_of run_options words in
+    let at = at_in (values_of (codes "--at") parts) in
+    let test = if_some (is_line parts && are_dirs (dirs_among parts)) (run_for at (dirs_among parts)) wanted asks in
+    read_with (codes "run") words wanted test.0 (run_dirs at (dirs_among parts) wanted test.1)
+
+read_dry : (words : List Word) (wanted : Wanted) → dry_in (parts_of [] words) ≡ Some wanted → Read (codes "dry") words wanted
 read_dry words wanted asks =
     let test = if_some (is_line (parts_of [] words) && no_dirs (parts_of [] words)) (Some Dry) wanted asks in
     let both = and_parts (is_line (parts_of [] words)) (no_dirs (parts_of [] words)) test.0 in
     let same : Dry ≡ wanted = let e = test.1 in cc in
     let none : dirs_in wanted ≡ [] = ap dirs_in (sym same) in
-    record { names = []; taken = inl refl; line = both.0; dirs = none ∙ sym (dirless (parts_of [] words) both.1).dirs; allowed = inr none }
+    record { line = both.0; dirs = none ∙ sym (dirless (parts_of [] words) both.1).dirs; allowed = inr none }
 
-by_command : (a b c : Bool) (x y z : Option Wanted) (wanted : Wanted) → (if a then x else if b then y else if c then z else None) ≡ Some wanted → (x ≡ Some wanted) ⊎ ((y ≡ Some wanted) ⊎ (z ≡ Some wanted))
-by_command true b c x y z wanted e = inl e
-by_command false true c x y z wanted e = inr (inl e)
-by_command false false true x y z wanted e = inr (inr e)
-by_command false false false x y z wanted e = let no : None ≡ Some wanted = e in cc
+pub read_by : (command : Word) (words : List Word) (wanted : Wanted) → wanted_by (command ∷ words) ≡ Some wanted → Read command words wanted
+read_by command words wanted asks = by (called command)
+  where
+    asked : (other : Word) → command ≡ other → wanted_by (other ∷ words) ≡ Some wanted
+    asked other is = subst (λ c. wanted_by (c ∷ words) ≡ Some wanted) is asks
 
-pub read_by : (command : Word) (words : List Word) (wanted : Wanted) → wanted_by (command ∷ words) ≡ Some wanted → Read words wanted
-read_by command words wanted asks =
-    ⊎_elim (λ states. read_states words wanted states) (λ others. ⊎_elim (λ format. read_format words wanted format) (λ dry. read_dry words wanted dry) others)
-    (by_command (bytes_eq command (codes "state")) (bytes_eq command (codes "format")) (bytes_eq command (codes "dry")) (states_in (parts_of [] words)) (format_in (parts_of format_options words)) (dry_in (parts_of [] words)) wanted asks)
+    by : Called command → Read command words wanted
+    by (a_state is) = subst (λ c. Read c words wanted) (sym is) (read_states words wanted (asked (codes "state") is))
+    by (a_format is) = subst (λ c. Read c words wanted) (sym is) (read_format words wanted (asked (codes "format") is))
+    by (a_dry is) = subst (λ c. Read c words wanted) (sym is) (read_dry words wanted (asked (codes "dry") is))
+    by (a_run is) = subst (λ c. Read c words wanted) (sym is) (read_run words wanted (asked (codes "run") is))
+    by (no_command none) = absurd (read_or_not (command ∷ words) wanted asks (none words))
 
--- what is no line, whatever the options, has no reading
-pub unread_by : (command : Word) (words : List Word) → ((names : List Word) → (names ≡ []) ⊎ (names ≡ format_options) → is_line (parts_of names words) ≡ false) → HaveNoReading (command ∷ words)
+-- what is no line has no reading
+pub unread_by : (command : Word) (words : List Word) → is_line (parts_of (options_of command) words) ≡ false → HaveNoReading (command ∷ words)
 unread_by command words broken = by (wanted_by (command ∷ words)) refl
   where
     by : (found : Option Wanted) → wanted_by (command ∷ words) ≡ found → wanted_by (command ∷ words) ≡ None
     by None is = is
-    by (Some wanted) is = let read = read_by command words wanted is in absurd (true≢false (sym read.line ∙ broken read.names read.taken))
+    by (Some wanted) is = absurd (true≢false (sym (read_by command words wanted is).line ∙ broken))
 
 -- ---- how many directories there are
 
@@ -128,20 +162,103 @@ namespace_range (Some word) n e = number_range (number_in word) n e
 -- an id that is a word, and a number within its range
 pub format_range : (words : List Word) (cluster : Word) (namespace : ℕ) (dirs : List Word) → wanted_by words ≡ Some (Format cluster namespace dirs) → IsTrue (is_word cluster) × (1 ≤ namespace) × (namespace ≤ 2147483647)
 format_range [] cluster namespace dirs asks = let no : None ≡ Some (Format cluster namespace dirs) = asks in cc
-format_range (command ∷ words) cluster namespace dirs asks =
-    let wanted = Format cluster namespace dirs in
-    let parts = parts_of format_options words in
-    let plain = parts_of [] words in
-    let given = once (values_of (codes "--cluster") parts) in
-    let number = once (values_of (codes "--namespace") parts) in
-    ⊎_elim
-    (λ (states : states_in plain ≡ Some wanted). let e = (if_some (is_line plain && are_dirs (dirs_among plain)) (Some (States (dirs_among plain))) wanted states).1 in let no : States (dirs_among plain) ≡ Format cluster namespace dirs = cc in cc)
-    (λ (others : (format_in parts ≡ Some wanted) ⊎ (dry_in plain ≡ Some wanted)). ⊎_elim
-    (λ (format : format_in parts ≡ Some wanted).
-    let e = (if_some (is_line parts && are_dirs (dirs_among parts)) (format_for (option_and_then cluster_in given) (option_and_then namespace_in number) (dirs_among parts)) wanted format).1 in
-    let both = format_for_some (option_and_then cluster_in given) (option_and_then namespace_in number) (dirs_among parts) cluster namespace dirs e in
-    let range = namespace_range number namespace both.1 in
-    (cluster_range given cluster both.0, range.0, range.1))
-    (λ (dry : dry_in plain ≡ Some wanted). let e = (if_some (is_line plain && no_dirs plain) (Some Dry) wanted dry).1 in let no : Dry ≡ Format cluster namespace dirs = cc in cc)
-    others)
-    (by_command (bytes_eq command (codes "state")) (bytes_eq command (codes "format")) (bytes_eq command (codes "dry")) (states_in plain) (format_in parts) (dry_in plain) wanted asks)
+format_range (command ∷ words) cluster namespace dirs asks = by (called command)
+  where
+    wanted : Wanted
+    wanted = Format cluster namespace dirs
+
+    asked : (other : Word) → command ≡ other → wanted_by (other ∷ words) ≡ Some wanted
+    asked other is = subst (λ c. wanted_by (c ∷ words) ≡ Some wanted) is asks
+
+    parts : List Part
+    parts = parts_of format_options words
+
+    plain : List Part
+    plain = parts_of [] words
+
+    timed : List Part
+    timed = parts_of run_options words
+
+    no_run : (at : Option ℕ) → run_for at (dirs_among timed) ≡ Some wanted → ⊥
+    no_run None e = let no : None ≡ Some wanted = e in cc
+    no_run (Some at) e = let no : Some (Run at (dirs_among timed)) ≡ Some wanted = e in cc
+
+    by : Called command → IsTrue (is_word cluster) × (1 ≤ namespace) × (namespace ≤ 2147483647)
+    by (a_state is) =
+        let e = (if_some (is_line plain && are_dirs (dirs_among plain)) (Some (States (dirs_among plain))) wanted (asked (codes "state") is)).1 in
+        let no : States (dirs_among plain) ≡ Format cluster namespace dirs = cc in cc
+    by (a_format is) =
+        let given = once (values_of (codes "--cluster") parts) in
+        let number = once (values_of (codes "--namespace") parts) in
+        let e = (if_some (is_line parts && are_dirs (dirs_among parts)) (format_for (option_and_then cluster_in given) (option_and_then namespace_in number) (dirs_among parts)) wanted (asked (codes "format") is)).1 in
+        let both = format_for_some (option_and_then cluster_in given) (option_and_then namespace_in number) (dirs_among parts) cluster namespace dirs e in
+        let range = namespace_range number namespace both.1 in
+        (cluster_range given cluster both.0, range.0, range.1)
+    by (a_dry is) =
+        let e = (if_some (is_line plain && no_dirs plain) (Some Dry) wanted (asked (codes "dry") is)).1 in
+        let no : Dry ≡ Format cluster namespace dirs = cc in cc
+    by (a_run is) =
+        let at = at_in (values_of (codes "--at") timed) in
+        absurd (no_run at (if_some (is_line timed && are_dirs (dirs_among timed)) (run_for at (dirs_among timed)) wanted (asked (codes "run") is)).1)
+    by (no_command none) = absurd (read_or_not (command ∷ words) wanted asks (none words))
+
+-- ---- what `run` is asked with
+
+number_small : (word : Word) (n : ℕ) → number_in word ≡ Some n → n < 2 ^ 63
+number_small word n e =
+    let test = if_some (is_number word) (Some (digits_value 10 word)) n e in
+    let some = and_parts (nat_le 1 (length word)) (nat_le (length word) 19 && (list_all is_ascii_digit word && nat_lt (digits_value 10 word) (2 ^ 63))) test.0 in
+    let few = and_parts (nat_le (length word) 19) (list_all is_ascii_digit word && nat_lt (digits_value 10 word) (2 ^ 63)) some.1 in
+    let below = ltb-true (digits_value 10 word) (2 ^ 63) (and_parts (list_all is_ascii_digit word) (nat_lt (digits_value 10 word) (2 ^ 63)) few.1).1 in
+    let same : digits_value 10 word ≡ n = let is = test.1 in cc in
+    subst (λ k. k < 2 ^ 63) same below
+
+time_small : (values : List Word) (n : ℕ) → at_in values ≡ Some n → n < 2 ^ 63
+time_small [] n e = let same : 0 ≡ n = cc in subst (λ k. k < 2 ^ 63) same (omega arith)
+time_small (value ∷ []) n e = number_small value n e
+time_small (value ∷ other ∷ values) n e = let no : None ≡ Some n = e in cc
+
+run_for_some : (at : Option ℕ) (dirs : List Word) (n : ℕ) (ds : List Word) → run_for at dirs ≡ Some (Run n ds) → at ≡ Some n
+run_for_some None dirs n ds e = let no : None ≡ Some (Run n ds) = e in cc
+run_for_some (Some at) dirs n ds e = let same : Some (Run at dirs) ≡ Some (Run n ds) = e in cc
+
+-- a time below 2^63
+pub run_range : (words : List Word) (at : ℕ) (dirs : List Word) → wanted_by words ≡ Some (Run at dirs) → at < 2 ^ 63
+run_range [] at dirs asks = let no : None ≡ Some (Run at dirs) = asks in cc
+run_range (command ∷ words) at dirs asks = by (called command)
+  where
+    wanted : Wanted
+    wanted = Run at dirs
+
+    asked : (other : Word) → command ≡ other → wanted_by (other ∷ words) ≡ Some wanted
+    asked other is = subst (λ c. wanted_by (c ∷ words) ≡ Some wanted) is asks
+
+    parts : List Part
+    parts = parts_of format_options words
+
+    plain : List Part
+    plain = parts_of [] words
+
+    timed : List Part
+    timed = parts_of run_options words
+
+    no_format : (cluster : Option Word) (namespace : Option ℕ) → format_for cluster namespace (dirs_among parts) ≡ Some wanted → ⊥
+    no_format None namespace e = let no : None ≡ Some wanted = e in cc
+    no_format (Some cluster) None e = let no : None ≡ Some wanted = e in cc
+    no_format (Some cluster) (Some namespace) e = let no : Some (Format cluster namespace (dirs_among parts)) ≡ Some wanted = e in cc
+
+    by : Called command → at < 2 ^ 63
+    by (a_state is) =
+        let e = (if_some (is_line plain && are_dirs (dirs_among plain)) (Some (States (dirs_among plain))) wanted (asked (codes "state") is)).1 in
+        let no : States (dirs_among plain) ≡ Run at dirs = cc in cc
+    by (a_format is) =
+        let cluster = option_and_then cluster_in (once (values_of (codes "--cluster") parts)) in
+        let namespace = option_and_then namespace_in (once (values_of (codes "--namespace") parts)) in
+        absurd (no_format cluster namespace (if_some (is_line parts && are_dirs (dirs_among parts)) (format_for cluster namespace (dirs_among parts)) wanted (asked (codes "format") is)).1)
+    by (a_dry is) =
+        let e = (if_some (is_line plain && no_dirs plain) (Some Dry) wanted (asked (codes "dry") is)).1 in
+        let no : Dry ≡ Run at dirs = cc in cc
+    by (a_run is) =
+        let time = at_in (values_of (codes "--at") timed) in
+        time_small (values_of (codes "--at") timed) at (run_for_some time (dirs_among timed) at dirs (if_some (is_line timed && are_dirs (dirs_among timed)) (run_for time (dirs_among timed)) wanted (asked (codes "run") is)).1)
+    by (no_command none) = absurd (read_or_not (command ∷ words) wanted asks (none words))

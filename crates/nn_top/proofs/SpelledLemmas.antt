@@ -8,60 +8,60 @@ use Rattle.std.proofs.lemmas.Slice.Eq.{bytes_eq-Decides}
 use Rattle.nn_top.specs.Words.{Word, is_plain, can_stand_apart, is_among, are_dirs}
 use Rattle.nn_top.specs.Parts.{Part, Dir, parts_of, is_dir, no_dirs, is_line, dirs_among}
 use Rattle.nn_top.specs.Wanted.{Wanted, States, Dry}
-use Rattle.nn_top.specs.Commands.{states_in, format_options, wanted_by}
-use Rattle.nn_top.specs.FormatWords.{BeginWith, IsEnd, is_given, begins}
-use Rattle.nn_top.specs.Laws.{GivenOption, can_be_given, words_of, spelling, IsSpelled, AreSpelled, format_with, states_with}
+use Rattle.nn_top.specs.Commands.{states_in, options_of, wanted_by}
+use Rattle.nn_top.specs.Begins.{BeginWith, IsEnd, is_given, begins}
+use Rattle.nn_top.specs.Laws.{GivenOption, can_be_given, words_of, spelling, TakesOptions, asked_with, IsSpelled, AreSpelled, states_with}
 use Rattle.nn_top.proofs.PartsLemmas.{First, a_dir, a_mark, an_option, a_stray, first_of, unplain_first, plain_parts, mark_first, marked_line, ended, line_of_dirs, dirless, plain_unread, skipped_line, stray_first, unended_line}
-use Rattle.nn_top.proofs.ReadingLemmas.{if_some}
+use Rattle.nn_top.proofs.ReadingLemmas.{if_some, read_by}
 use Rattle.nn_top.proofs.LineLemmas.{part_for, all_given, choices_parts, marked_read, plain_read_line}
 
 -- ---- options in front
 
 -- the option that stands first, as it is spelled
-record Spells (words : List Word) (rest : List Word) : Type 0 where
+record Spells (command : Word) (words rest : List Word) : Type 0 where
   choice : GivenOption
-  is : can_be_given choice ≡ true
+  is : can_be_given command choice ≡ true
   spelled : words ≡ words_of choice ++ rest
   shorter : length rest < length words
 
-spells : (words : List Word) (name value : Word) (rest : List Word) → is_among format_options name ≡ true → BeginWith words name value rest → Spells words rest
-spells words name value rest among (inl is) = record {
+spells : (command : Word) (words : List Word) (name value : Word) (rest : List Word) → is_among (options_of command) name ≡ true → BeginWith words name value rest → Spells command words rest
+spells command words name value rest among (inl is) = record {
   choice = record { name = name; value = value; is_joined = true };
-  is = and_from (is_among format_options name) true among refl;
+  is = and_from (is_among (options_of command) name) true among refl;
   spelled = is;
   shorter = omega (arith, ap length is);
 }
-spells words name value rest among (inr (is, apart)) = record {
+spells command words name value rest among (inr (is, apart)) = record {
   choice = record { name = name; value = value; is_joined = false };
-  is = and_from (is_among format_options name) (can_stand_apart value) among apart;
+  is = and_from (is_among (options_of command) name) (can_stand_apart value) among apart;
   spelled = is;
   shorter = omega (arith, ap length is);
 }
 
 -- options, and then none
-record Front (words : List Word) : Type 0 where
+record Front (command : Word) (words : List Word) : Type 0 where
   choices : List GivenOption
   rest : List Word
-  all : list_all can_be_given choices ≡ true
+  all : list_all (can_be_given command) choices ≡ true
   spelled : words ≡ spelling choices ++ rest
-  ended : begins is_given (parts_of format_options rest) ≡ false
+  ended : begins is_given (parts_of (options_of command) rest) ≡ false
 
-front_of : (most : ℕ) (words : List Word) → length words ≤ most → Front words
-front_of most [] few = record { choices = []; rest = []; all = refl; spelled = refl; ended = refl }
-front_of zero (word ∷ words) few = absurd (omega arith)
-front_of (suc most) (word ∷ words) few = by (λ rest less. front_of most rest less) (first_of format_options word words)
+front_of : (command : Word) (most : ℕ) (words : List Word) → length words ≤ most → Front command words
+front_of command most [] few = record { choices = []; rest = []; all = refl; spelled = refl; ended = refl }
+front_of command zero (word ∷ words) few = absurd (omega arith)
+front_of command (suc most) (word ∷ words) few = by (λ rest less. front_of command most rest less) (first_of (options_of command) word words)
   where
-    by : ((rest : List Word) → length rest ≤ most → Front rest) → First format_options word words → Front (word ∷ words)
+    by : ((rest : List Word) → length rest ≤ most → Front command rest) → First (options_of command) word words → Front command (word ∷ words)
     by again (a_dir plain e) = record { choices = []; rest = word ∷ words; all = refl; spelled = refl; ended = rw e refl }
     by again (a_mark is e) = record { choices = []; rest = word ∷ words; all = refl; spelled = refl; ended = rw e refl }
     by again (a_stray e) = record { choices = []; rest = word ∷ words; all = refl; spelled = refl; ended = rw e refl }
     by again (an_option name value rest among begin e) =
-        let first = spells (word ∷ words) name value rest among begin in
+        let first = spells command (word ∷ words) name value rest among begin in
         let later = again rest (omega (arith, few, first.shorter)) in
         record {
           choices = first.choice ∷ later.choices;
           rest = later.rest;
-          all = and_from (can_be_given first.choice) (list_all can_be_given later.choices) first.is later.all;
+          all = and_from (can_be_given command first.choice) (list_all (can_be_given command) later.choices) first.is later.all;
           spelled = first.spelled ∙ (ap (λ ws. words_of first.choice ++ ws) later.spelled ∙ sym (append_assoc (words_of first.choice) (spelling later.choices) later.rest));
           ended = later.ended;
         }
@@ -101,13 +101,13 @@ marked_or_not (word ∷ words) = ⊎_elim
     (λ (other : bytes_eq word (codes "--") ≡ false). inr (λ later is. let same : word ≡ codes "--" = cc in true≢false (sym ((bytes_eq-Decides word (codes "--")).1 same) ∙ other)))
     (cases_Bool (bytes_eq word (codes "--")))
 
--- ---- `format`
+-- ---- lines with options
 
 -- a line that isn't marked ends behind the options that follow its directories
-no_more : (rest dirs behind end : List Word) (choices : List GivenOption) → is_line (parts_of format_options rest) ≡ true → begins is_given (parts_of format_options rest) ≡ false → ((later : List Word) → rest ≢ codes "--" ∷ later)
-    → rest ≡ dirs ++ behind → list_all is_plain dirs ≡ true → begins is_dir (parts_of format_options behind) ≡ false → behind ≡ spelling choices ++ end → list_all can_be_given choices ≡ true → begins is_given (parts_of format_options end) ≡ false → (IsEnd end → ⊥) → ⊥
-no_more rest [] behind end choices line option unmarked is plain dir spelled all none more =
-    let broken = stray_first format_options rest (λ nothing. more (inl (last choices end (sym spelled ∙ (sym is ∙ nothing))))) option (ap (λ ws. begins is_dir (parts_of format_options ws)) is ∙ dir) unmarked in
+no_more : (command : Word) (rest dirs behind end : List Word) (choices : List GivenOption) → is_line (parts_of (options_of command) rest) ≡ true → begins is_given (parts_of (options_of command) rest) ≡ false → ((later : List Word) → rest ≢ codes "--" ∷ later)
+    → rest ≡ dirs ++ behind → list_all is_plain dirs ≡ true → begins is_dir (parts_of (options_of command) behind) ≡ false → behind ≡ spelling choices ++ end → list_all (can_be_given command) choices ≡ true → begins is_given (parts_of (options_of command) end) ≡ false → (IsEnd end → ⊥) → ⊥
+no_more command rest [] behind end choices line option unmarked is plain dir spelled all none more =
+    let broken = stray_first (options_of command) rest (λ nothing. more (inl (last choices end (sym spelled ∙ (sym is ∙ nothing))))) option (ap (λ ws. begins is_dir (parts_of (options_of command) ws)) is ∙ dir) unmarked in
     true≢false (sym line ∙ broken)
   where
     last : (choices : List GivenOption) (end : List Word) → spelling choices ++ end ≡ [] → end ≡ []
@@ -117,29 +117,29 @@ no_more rest [] behind end choices line option unmarked is plain dir spelled all
         by : (joined : Bool) → choice.is_joined ≡ joined → ⊥
         by true j = let no : ((choice.name ++ codes "=") ++ choice.value) ∷ (spelling choices ++ end) ≡ [] = rw j at e in cc
         by false j = let no : choice.name ∷ choice.value ∷ (spelling choices ++ end) ≡ [] = rw j at e in cc
-no_more rest (first ∷ dirs) behind end choices line option unmarked is plain dir spelled all none more =
-    let back = choices_parts choices end all in
-    let parts : parts_of format_options behind ≡ map part_for choices ++ parts_of format_options end = ap (parts_of format_options) spelled ∙ back in
-    let whole : parts_of format_options rest ≡ map Dir (first ∷ dirs) ++ (map part_for choices ++ parts_of format_options end) =
-    ap (parts_of format_options) is ∙ (plain_parts format_options (first ∷ dirs) behind plain ∙ ap (λ ps. map Dir (first ∷ dirs) ++ ps) parts)
+no_more command rest (first ∷ dirs) behind end choices line option unmarked is plain dir spelled all none more =
+    let back = choices_parts command choices end all in
+    let parts : parts_of (options_of command) behind ≡ map part_for choices ++ parts_of (options_of command) end = ap (parts_of (options_of command)) spelled ∙ back in
+    let whole : parts_of (options_of command) rest ≡ map Dir (first ∷ dirs) ++ (map part_for choices ++ parts_of (options_of command) end) =
+    ap (parts_of (options_of command)) is ∙ (plain_parts (options_of command) (first ∷ dirs) behind plain ∙ ap (λ ps. map Dir (first ∷ dirs) ++ ps) parts)
     in
-    true≢false (sym line ∙ (ap is_line whole ∙ unended_line format_options first dirs end (map part_for choices) (all_given choices) (ap (begins is_dir) (sym parts) ∙ dir) none more))
+    true≢false (sym line ∙ (ap is_line whole ∙ unended_line (options_of command) first dirs end (map part_for choices) (all_given choices) (ap (begins is_dir) (sym parts) ∙ dir) none more))
 
 -- a line is spelled by these
-pub record Found (words : List Word) : Type 0 where
+pub record Found (command : Word) (words : List Word) : Type 0 where
   pub choices : List GivenOption
   pub dirs : List Word
-  pub all : list_all can_be_given choices ≡ true
+  pub all : list_all (can_be_given command) choices ≡ true
   pub spelled : IsSpelled words choices dirs
 
-line_found : (words : List Word) → is_line (parts_of format_options words) ≡ true → Found words
-line_found words line = ⊎_elim
+line_found : (command : Word) (words : List Word) → is_line (parts_of (options_of command) words) ≡ true → Found command words
+line_found command words line = ⊎_elim
     (λ (marked : (later : List Word) × (front.rest ≡ codes "--" ∷ later)). record { choices = front.choices; dirs = marked.0; all = front.all; spelled = inr (front.spelled ∙ ap (λ ws. spelling front.choices ++ ws) marked.1) })
     (λ (unmarked : (later : List Word) → front.rest ≢ codes "--" ∷ later). ⊎_elim
     (λ (ends : IsEnd back.rest). record {
       choices = front.choices ++ back.choices;
       dirs = plain.dirs;
-      all = list_all-append can_be_given front.choices back.choices ∙ and_from (list_all can_be_given front.choices) (list_all can_be_given back.choices) front.all back.all;
+      all = list_all-append (can_be_given command) front.choices back.choices ∙ and_from (list_all (can_be_given command) front.choices) (list_all (can_be_given command) back.choices) front.all back.all;
       spelled = inl (record {
         front = front.choices;
         back = back.choices;
@@ -150,37 +150,35 @@ line_found words line = ⊎_elim
         spelled = front.spelled ∙ ap (λ ws. spelling front.choices ++ ws) (plain.spelled ∙ ap (λ ws. plain.dirs ++ ws) back.spelled);
       });
     })
-    (λ (more : IsEnd back.rest → ⊥). absurd (no_more front.rest plain.dirs plain.rest back.rest back.choices rest_line front.ended unmarked plain.spelled plain.all plain.ended back.spelled back.all back.ended more))
+    (λ (more : IsEnd back.rest → ⊥). absurd (no_more command front.rest plain.dirs plain.rest back.rest back.choices rest_line front.ended unmarked plain.spelled plain.all plain.ended back.spelled back.all back.ended more))
     (ends_or_not back.rest))
     (marked_or_not front.rest)
   where
-    front : Front words
-    front = front_of (length words) words (omega arith)
+    front : Front command words
+    front = front_of command (length words) words (omega arith)
 
-    plain : Plain format_options front.rest
-    plain = plain_of format_options front.rest
+    plain : Plain (options_of command) front.rest
+    plain = plain_of (options_of command) front.rest
 
-    back : Front plain.rest
-    back = front_of (length plain.rest) plain.rest (omega arith)
+    back : Front command plain.rest
+    back = front_of command (length plain.rest) plain.rest (omega arith)
 
-    rest_line : is_line (parts_of format_options front.rest) ≡ true
-    rest_line = sym (skipped_line (map part_for front.choices) (parts_of format_options front.rest) (all_given front.choices)) ∙ (ap is_line (sym (choices_parts front.choices front.rest front.all)) ∙ (ap (λ ws. is_line (parts_of format_options ws)) (sym front.spelled) ∙ line))
+    rest_line : is_line (parts_of (options_of command) front.rest) ≡ true
+    rest_line = sym (skipped_line (map part_for front.choices) (parts_of (options_of command) front.rest) (all_given front.choices)) ∙ (ap is_line (sym (choices_parts command front.choices front.rest front.all)) ∙ (ap (λ ws. is_line (parts_of (options_of command) ws)) (sym front.spelled) ∙ line))
 
-pub format_spelled : (words : List Word) (wanted : Wanted) → wanted_by (codes "format" ∷ words) ≡ Some wanted
-    → (choices : List GivenOption) × (dirs : List Word) × (list_all can_be_given choices ≡ true) × IsSpelled words choices dirs × (format_with choices dirs ≡ Some wanted)
-format_spelled words wanted asks =
-    let parts = parts_of format_options words in
-    let test = if_some (is_line parts && are_dirs (dirs_among parts)) _ wanted asks in
-    let found = line_found words (and_parts (is_line parts) (are_dirs (dirs_among parts)) test.0).0 in
+pub options_spelled : (command : Word) (words : List Word) (wanted : Wanted) → TakesOptions command → wanted_by (command ∷ words) ≡ Some wanted
+    → (choices : List GivenOption) × (dirs : List Word) × (list_all (can_be_given command) choices ≡ true) × IsSpelled words choices dirs × (asked_with command choices dirs ≡ Some wanted)
+options_spelled command words wanted takes asks =
+    let found = line_found command words (read_by command words wanted asks).line in
     (found.choices, found.dirs, found.all, found.spelled, value found found.spelled)
   where
-    value : (found : Found words) → IsSpelled words found.choices found.dirs → format_with found.choices found.dirs ≡ Some wanted
-    value found (inr marked) = sym (marked_read found.choices found.dirs found.all) ∙ (ap (λ ws. wanted_by (codes "format" ∷ ws)) (sym marked) ∙ asks)
+    value : (found : Found command words) → IsSpelled words found.choices found.dirs → asked_with command found.choices found.dirs ≡ Some wanted
+    value found (inr marked) = sym (marked_read command found.choices found.dirs takes found.all) ∙ (ap (λ ws. wanted_by (command ∷ ws)) (sym marked) ∙ asks)
     value found (inl around) =
-        let all = ap (list_all can_be_given) (sym around.both) ∙ found.all in
-        let both = and_parts (list_all can_be_given around.front) (list_all can_be_given around.back) (sym (list_all-append can_be_given around.front around.back) ∙ all) in
-        ap (λ cs. format_with cs found.dirs) around.both
-        ∙ (sym (plain_read_line around.front around.back found.dirs around.end both.0 both.1 around.plain around.ends) ∙ (ap (λ ws. wanted_by (codes "format" ∷ ws)) (sym around.spelled) ∙ asks))
+        let all = ap (list_all (can_be_given command)) (sym around.both) ∙ found.all in
+        let both = and_parts (list_all (can_be_given command) around.front) (list_all (can_be_given command) around.back) (sym (list_all-append (can_be_given command) around.front around.back) ∙ all) in
+        ap (λ cs. asked_with command cs found.dirs) around.both
+        ∙ (sym (plain_read_line command around.front around.back found.dirs around.end takes both.0 both.1 around.plain around.ends) ∙ (ap (λ ws. wanted_by (command ∷ ws)) (sym around.spelled) ∙ asks))
 
 -- ---- `state` and `dry`
 

@@ -15,7 +15,8 @@ use Rattle.nn_server.specs.States.{state_status}
 use Rattle.nn_server.specs.Format.{format_status}
 use Rattle.nn_server.specs.Codes.{dry_status}
 use Rattle.nn_top.specs.Closes.{ClosesWhole, ClosesCut}
-use Rattle.nn_top.specs.Did.{Ended, Unread}
+use Rattle.nn_top.specs.Ended.{Ended}
+use Rattle.nn_top.specs.Did.{Unread}
 
 pub not_usage : {End : Type 0} {told : Type 0} {a b : State} {status_of : End → Status} {Ran : Bytes → List Entry → End → Type 0} {result : Status} → ((end : End) → status_of end ≢ Usage) → Ended told a b status_of Ran result → result ≢ Usage
 not_usage {told = told} {a = a} {b = b} {status_of = status_of} {result = result} others ended is = ⊎_elim

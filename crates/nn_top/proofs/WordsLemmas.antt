@@ -10,7 +10,7 @@ use Rattle.std.proofs.lemmas.List.Sums.{list_all-from_AllPass, prefix_len_passes
 use Rattle.nn_base.specs.Limits.{most_dirs}
 use Rattle.nn_top.specs.Words.{Word, texts, is_plain, is_named, are_distinct, are_dirs}
 use Rattle.nn_top.specs.Parts.{parts_of, is_dir}
-use Rattle.nn_top.specs.FormatWords.{begins}
+use Rattle.nn_top.specs.Begins.{begins}
 use Rattle.nn_top.proofs.PartsLemmas.{unplain_first}
 
 list_any-map : {Z : Type 0} (test : Word → Bool) (words : List (String Z)) → list_any test (texts words) ≡ list_any (λ word. test (string_bytes word)) words

@@ -7,6 +7,7 @@ use Rattle.nn_host.specs.Runs.{OutWhole, SilentAfter}
 use Rattle.nn_server.specs.declared.status.Status.{Status}
 use Rattle.nn_server.specs.declared.status.Status.TheVariants.{Ok, Refused, HostFault, Memory, OutFault}
 use Rattle.nn_say.specs.Records.{Records}
+use Rattle.nn_say.specs.Saying.{SaysFronts}
 use Rattle.nn_server.specs.Came.{is_out_fault, TouchesNoDir}
 use Rattle.nn_top.specs.Lines.{last_line}
 
@@ -52,7 +53,11 @@ Closes told trace old new lines status result = ClosesWhole told trace old new l
 
 -- ---- closing
 
--- what closing does, where the command came to this status: nothing where the output failed before, and else the last line
+-- what closing does, where the command came to this status: nothing where the output failed before, and else the last line, of
+-- which a front was said at each moment
 pub record Closing (told : Type 0) (old new : State) (status result : Status) : Type 0 where
   pub dirs : TouchesNoDir told old new
+  pub last : Status
+  pub is_last : IsLast status last
+  pub fronts : SaysFronts told old new (last_line last)
   pub ends : ((status ≡ OutFault) × (result ≡ OutFault) × (new ≡ old)) ⊎ ((is_out_fault status ≡ false) × Closes told old.trace old new [] status result)

@@ -5,7 +5,7 @@ use Rattle.nn_base.specs.Decimal.{number_in}
 use Rattle.nn_base.specs.Words.{is_word}
 use Rattle.nn_top.specs.declared.words.Command.{Command}
 use Rattle.nn_top.specs.declared.words.Command.TheVariants as command
-use Rattle.nn_top.specs.Wanted.{Wanted, States, Format, Dry}
+use Rattle.nn_top.specs.Wanted.{Wanted, States, Format, Dry, Run}
 use Rattle.nn_top.specs.Words.{Word, texts, are_dirs}
 use Rattle.nn_top.specs.Parts.{Part, parts_of, is_line, no_dirs, dirs_among, values_of}
 
@@ -48,6 +48,27 @@ format_in parts =
 abbrev pub format_options : List Word
 format_options = codes "--cluster" ∷ codes "--namespace" ∷ []
 
+-- the clock as a run starts: 0, where the words don't give it
+abbrev pub at_in : List Word → Option ℕ
+at_in [] = Some 0
+at_in (value ∷ []) = number_in value
+at_in (value ∷ other ∷ values) = None
+
+abbrev pub run_for : Option ℕ → List Word → Option Wanted
+run_for None dirs = None
+run_for (Some at) dirs = Some (Run at dirs)
+
+-- `run` takes directories, and perhaps a time
+abbrev pub run_in : List Part → Option Wanted
+run_in parts = if is_line parts && are_dirs (dirs_among parts) then run_for (at_in (values_of (codes "--at") parts)) (dirs_among parts) else None
+
+abbrev pub run_options : List Word
+run_options = codes "--at" ∷ []
+
+-- the options that a command takes
+abbrev pub options_of : Word → List Word
+options_of command = if bytes_eq command (codes "format") then format_options else if bytes_eq command (codes "run") then run_options else []
+
 -- what the words ask for, if they have a reading
 abbrev pub wanted_by : List Word → Option Wanted
 wanted_by [] = None
@@ -55,6 +76,7 @@ wanted_by (command ∷ words) =
     if bytes_eq command (codes "state") then states_in (parts_of [] words)
     else if bytes_eq command (codes "format") then format_in (parts_of format_options words)
     else if bytes_eq command (codes "dry") then dry_in (parts_of [] words)
+    else if bytes_eq command (codes "run") then run_in (parts_of run_options words)
     else None
 
 abbrev pub HaveNoReading : List Word → Type 0
@@ -65,3 +87,4 @@ abbrev pub wanted_in : Command → Wanted
 wanted_in (command.State dirs) = States (texts dirs.now)
 wanted_in (command.Format cluster namespace dirs) = Format cluster namespace (texts dirs.now)
 wanted_in command.Dry = Dry
+wanted_in (command.Run at dirs) = Run at (texts dirs.now)

@@ -1,7 +1,7 @@
 -- What a run of the program did, from its entry to its return: the table of commands.
-use Rattle.std.specs.Prelude.{◌≡◌, ℕ, List, []}
+use Rattle.std.specs.Prelude.{◌≡◌, ℕ, []}
 use Rattle.nn_base.specs.Paths.{Bytes}
-use Rattle.nn_host.specs.Moments.{Entry, State}
+use Rattle.nn_host.specs.Moments.{State}
 use Rattle.nn_server.specs.declared.status.Status.{Status}
 use Rattle.nn_server.specs.declared.status.Status.TheVariants.{Usage}
 use Rattle.nn_server.specs.Came.{TouchesNoDir}
@@ -9,29 +9,23 @@ use Rattle.nn_server.specs.States.{StateRan, state_status}
 use Rattle.nn_server.specs.Format.{FormatRan, format_status}
 use Rattle.nn_server.specs.Dry.{DryRan}
 use Rattle.nn_server.specs.Codes.{code_of, dry_status}
-use Rattle.nn_top.specs.Wanted.{Wanted, States, Format, Dry}
+use Rattle.nn_top.specs.Wanted.{Wanted, States, Format, Dry, Run}
 use Rattle.nn_top.specs.Closes.{Closes}
-
--- a command came to an end and the run was closed: what the command's record tells of that end, of the lines and of the calls
--- recorded by then holds
-pub record Ended {End : Type 0} (told : Type 0) (old new : State) (status_of : End → Status) (Ran : Bytes → List Entry → End → Type 0) (result : Status) : Type 0 where
-  pub end : End
-  pub lines : Bytes
-  pub trace : List Entry
-  pub ran : Ran lines trace end
-  pub closes : Closes told trace old new lines (status_of end) result
+use Rattle.nn_top.specs.Ended.{Ended}
+use Rattle.nn_top.specs.Runs.{RunDid}
 
 -- words without a reading: nothing is done but to say `usage`
 pub record Unread (told : Type 0) (old new : State) (result : Status) : Type 0 where
   pub dirs : TouchesNoDir told old new
   pub closes : Closes told old.trace old new [] Usage result
 
--- what a run did that was asked for this; only `dry` reads the source
+-- what a run did that was asked for this; only `dry` and `run` read the source
 abbrev pub Did : {Source : Type 0} → Type 0 → Type 0 → (Source → Bytes) → (Source → ℕ) → Wanted → Source → Source → State → State → Status → Type 0
 Did told told_source left faults (States dirs) before after old new result = (after ≡ before) × Ended told old new state_status (StateRan told old new) result
 Did told told_source left faults (Format cluster namespace dirs) before after old new result =
     (after ≡ before) × Ended told old new format_status (λ lines trace. FormatRan told cluster namespace old new lines) result
 Did told told_source left faults Dry before after old new result = Ended told old new dry_status (DryRan told told_source (left before) (left after) (faults before) (faults after) old new) result
+Did told told_source left faults (Run at dirs) before after old new result = RunDid told told_source at (left before) (left after) (faults before) (faults after) old new result
 
 -- this is the exit code of a status that a run ended with of which this is told
 abbrev pub ExitsAs : (Status → Type 0) → ℕ → Type 0

@@ -5,8 +5,8 @@ use Rattle.std.specs.Str.{bytes_eq}
 use Rattle.nn_base.specs.Limits.{most_dirs}
 use Rattle.nn_top.specs.Words.{Word, is_plain, can_stand_apart, is_among, are_dirs}
 use Rattle.nn_top.specs.Wanted.{Wanted, States}
-use Rattle.nn_top.specs.Commands.{once, cluster_in, namespace_in, format_for, format_options}
-use Rattle.nn_top.specs.FormatWords.{IsEnd}
+use Rattle.nn_top.specs.Commands.{once, cluster_in, namespace_in, format_for, at_in, run_for, options_of}
+use Rattle.nn_top.specs.Begins.{IsEnd}
 
 -- one to eight directories, none without a name, no two with the same
 pub record AreDirs (dirs : List Word) : Type 0 where
@@ -15,9 +15,9 @@ pub record AreDirs (dirs : List Word) : Type 0 where
   pub named : All (λ dir. dir ≢ []) dirs
   pub distinct : AllPairs (λ one other. one ≢ other) dirs
 
--- an option of `format`
-abbrev pub IsOption : Word → Type 0
-IsOption option = IsTrue (is_among format_options option)
+-- an option that this command takes
+abbrev pub IsOption : Word → Word → Type 0
+IsOption command option = IsTrue (is_among (options_of command) option)
 
 -- no `--` is among the words
 abbrev pub is_unmarked : List Word → Bool
@@ -29,8 +29,9 @@ pub record GivenOption : Type 0 where
   pub value : Word
   pub is_joined : Bool
 
-abbrev pub can_be_given : GivenOption → Bool
-can_be_given choice = is_among format_options choice.name && (choice.is_joined || can_stand_apart choice.value)
+-- it can be given to this command
+abbrev pub can_be_given : Word → GivenOption → Bool
+can_be_given command choice = is_among (options_of command) choice.name && (choice.is_joined || can_stand_apart choice.value)
 
 abbrev pub words_of : GivenOption → List Word
 words_of choice = if choice.is_joined then (choice.name ++ codes "=" ++ choice.value) ∷ [] else choice.name ∷ choice.value ∷ []
@@ -56,12 +57,24 @@ pub record IsSpelledAround (words : List Word) (choices : List GivenOption) (dir
 abbrev pub IsSpelled : List Word → List GivenOption → List Word → Type 0
 IsSpelled words choices dirs = IsSpelledAround words choices dirs ⊎ (words ≡ spelling choices ++ codes "--" ∷ dirs)
 
+-- the commands that take options
+abbrev pub TakesOptions : Word → Type 0
+TakesOptions command = (command ≡ codes "format") ⊎ (command ≡ codes "run")
+
 -- what `format` asks for with these options and directories
 abbrev pub format_with : List GivenOption → List Word → Option Wanted
 format_with choices dirs =
     if are_dirs dirs
     then format_for (option_and_then cluster_in (once (values_in (codes "--cluster") choices))) (option_and_then namespace_in (once (values_in (codes "--namespace") choices))) dirs
     else None
+
+-- what `run` asks for with these
+abbrev pub run_with : List GivenOption → List Word → Option Wanted
+run_with choices dirs = if are_dirs dirs then run_for (at_in (values_in (codes "--at") choices)) dirs else None
+
+-- what such a command asks for with them
+abbrev pub asked_with : Word → List GivenOption → List Word → Option Wanted
+asked_with command choices dirs = if bytes_eq command (codes "format") then format_with choices dirs else if bytes_eq command (codes "run") then run_with choices dirs else None
 
 -- plain directories, and perhaps a last `--`, or `--` and directories that may begin with `-`
 abbrev pub AreSpelled : List Word → List Word → Type 0

@@ -2,8 +2,11 @@ pub mod Words
 pub mod Parts
 pub mod Wanted
 pub mod Commands
-pub mod FormatWords
+pub mod Begins
+pub mod Options
 pub mod Laws
 pub mod Lines
 pub mod Closes
+pub mod Ended
+pub mod Runs
 pub mod Did

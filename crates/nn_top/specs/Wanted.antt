@@ -9,9 +9,12 @@ pub data Wanted : Type 0 where
   Format : Bytes → ℕ → List Bytes → Wanted
   -- a script on a namespace in memory alone
   Dry : Wanted
+  -- a script on the namespace that these directories hold, from this time on
+  Run : ℕ → List Bytes → Wanted
 
 -- the directories that a command is done on, in order
 abbrev pub dirs_in : Wanted → List Bytes
 dirs_in (States dirs) = dirs
 dirs_in (Format cluster namespace dirs) = dirs
 dirs_in Dry = []
+dirs_in (Run at dirs) = dirs

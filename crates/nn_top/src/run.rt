@@ -1,5 +1,5 @@
 // A whole run of the program, but for the real folders, the real input and the real output.
-ghost use Rattle.std.specs.Prelude.{◌≡◌, ◌⊎◌, ◌≤◌, ◌∷◌, [], None, false, true, IfOk, IfSome, IsTrue, Some, length};
+ghost use Rattle.std.specs.Prelude.{◌≡◌, ◌⊎◌, ◌<◌, ◌≤◌, ◌^◌, ◌∷◌, [], None, false, true, IfOk, IfSome, IsTrue, Some, length};
 ghost use Rattle.std.specs.String.{string_bytes};
 ghost use Rattle.nn_base.specs.Words.{is_word};
 ghost use Rattle.nn_host.specs.Moments.{Say};
@@ -13,7 +13,9 @@ ghost use Rattle.nn_top.specs.Words.{texts};
 ghost use Rattle.nn_top.specs.Wanted.{dirs_in};
 ghost use Rattle.nn_top.specs.Commands.{wanted_by, HaveNoReading};
 ghost use Rattle.nn_top.specs.Lines.{last_line};
-ghost use Rattle.nn_top.specs.Did.{Ended, Unread, Did};
+ghost use Rattle.nn_top.specs.Ended.{Ended};
+ghost use Rattle.nn_top.specs.Runs.{RunDid};
+ghost use Rattle.nn_top.specs.Did.{Unread, Did};
 ghost use Rattle.nn_top.specs.Closes.{is_made, IsLast, last_call, Closing};
 
 use crate::words::{Command, command_of};
@@ -22,7 +24,7 @@ use nn_host::{Failed, Host, MOST_SAID, Source};
 use nn_server::{Status, dry, format, state};
 use std::alloc::Global;
 
-/// Does what the words of the command line ask for, and says its answers. The script of `dry` comes from the source.
+/// Does what the words of the command line ask for, and says its answers. The script of `dry` and of `run` comes from the source.
 ///
 /// Where the words have a reading, the host has as many directories as that reading, in its order.
 pub fn namenode<H: Host, S: Source>(
@@ -49,6 +51,7 @@ pub fn namenode<H: Host, S: Source>(
             ..
         } => run_format(alloc, host, cluster, *namespace),
         Command::Dry => run_dry(alloc, host, source),
+        Command::Run { at, .. } => run_dirs(alloc, host, source, *at),
     }
 }
 
@@ -77,6 +80,15 @@ fn run_dry<H: Host, S: Source>(alloc: Global, host: &mut H, source: &mut S) -> S
         (H.state host.old) (H.state host.new)) result }
 {
     let end = dry(alloc, host, source);
+    close(alloc, host, end.status())
+}
+
+fn run_dirs<H: Host, S: Source>(alloc: Global, host: &mut H, source: &mut S, at: u64) -> Status
+    requires { at < 2 ^ 63 }
+    ensures { RunDid H.told S.told at (S.left source.old) (S.left source.new) (S.faults source.old) (S.faults source.new)
+        (H.state host.old) (H.state host.new) result }
+{
+    let end = nn_serve::run(alloc, host, source, at);
     close(alloc, host, end.status())
 }
 

@@ -4,17 +4,21 @@ ghost use Rattle.std.specs.List.{list_all, list_any, prefix_len};
 ghost use Rattle.std.specs.Str.{bytes_eq};
 ghost use Rattle.std.specs.String.{string_bytes};
 ghost use Rattle.nn_top.specs.Words.{Word as W, texts, is_plain, is_named, are_distinct, are_dirs};
-ghost use Rattle.nn_top.specs.Parts.{Dir, parts_of, is_line, is_dir, dirs_among};
-ghost use Rattle.nn_top.specs.FormatWords.{IsEnd, begins};
+ghost use Rattle.nn_top.specs.Parts.{Dir, parts_of, is_dir};
+ghost use Rattle.nn_top.specs.Begins.{IsEnd, begins};
 ghost use Rattle.nn_top.specs.Wanted.{dirs_in};
 ghost use Rattle.nn_top.specs.Commands.{states_in, dry_in, wanted_by, HaveNoReading, wanted_in};
 
 mod format;
+mod line;
 mod options;
+mod run;
 
 use format::format_asked;
+use line::line_of;
 use nn_base::Word;
 use nn_base::limits::MOST_DIRS;
+use run::run_asked;
 use std::alloc::{AllocError, Global};
 use thiserror::Error;
 
@@ -34,6 +38,12 @@ pub enum Command<'a> {
     },
     /// `dry`: a script on a namespace in memory alone. It has no directories.
     Dry,
+    /// `run --at T DIRS`: a script on the namespace that the directories hold, where the clock is at T milliseconds at first, or
+    /// at 0.
+    Run {
+        at: u64,
+        dirs: &'a [String],
+    },
 }
 
 /// Why words give no directories.
@@ -67,7 +77,9 @@ impl<'a> Command<'a> {
         ensures { texts result.now ≡ dirs_in (wanted_in self.now) }
     {
         match self {
-            Command::State { dirs } | Command::Format { dirs, .. } => dirs,
+            Command::State { dirs } | Command::Format { dirs, .. } | Command::Run { dirs, .. } => {
+                dirs
+            }
             Command::Dry => &[],
         }
     }
@@ -88,6 +100,9 @@ pub fn command_of(words: &[String]) -> Option<Command<'_>>
     if command.as_str() == "dry" {
         return dry_asked(later);
     }
+    if command.as_str() == "run" {
+        return run_asked(later);
+    }
     None
 }
 
@@ -105,7 +120,7 @@ fn copied(alloc: Global, words: &[String]) -> Result<Vec<String>, AllocError>
 fn states_asked(words: &[String]) -> Option<Command<'_>>
     ensures { option_map wanted_in result ≡ states_in (parts_of [] (texts words.now)) }
 {
-    let dirs = plain_dirs(words)?;
+    let (_, dirs) = line_of(&[], words)?;
     if are_dirs(dirs) {
         Some(Command::State { dirs })
     } else {
@@ -117,24 +132,12 @@ fn states_asked(words: &[String]) -> Option<Command<'_>>
 fn dry_asked(words: &[String]) -> Option<Command<'_>>
     ensures { option_map wanted_in result ≡ dry_in (parts_of [] (texts words.now)) }
 {
-    let dirs = plain_dirs(words)?;
+    let (_, dirs) = line_of(&[], words)?;
     if dirs.is_empty() {
         Some(Command::Dry)
     } else {
         None
     }
-}
-
-// The directories of words that make a line without options.
-fn plain_dirs(words: &[String]) -> Option<&[String]>
-    ensures { MatchOption result (is_line (parts_of [] (texts words.now)) ≡ false)
-        (λ dirs. (is_line (parts_of [] (texts words.now)) ≡ true) × (dirs_among (parts_of [] (texts words.now)) ≡ texts dirs.now)) }
-{
-    if let Some(dirs) = after_mark(words) {
-        return Some(dirs);
-    }
-    let (dirs, rest) = plain_split(words);
-    if is_end(rest) { Some(dirs) } else { None }
 }
 
 // Whether nothing is left, or a last `--`.

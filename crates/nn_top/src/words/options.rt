@@ -2,10 +2,48 @@
 ghost use Rattle.std.specs.Prelude.{◌≡◌, List, [], ◌∷◌, ◌++◌, IsTrue, MatchOption};
 ghost use Rattle.nn_top.specs.Words.{Word as W, texts};
 ghost use Rattle.nn_top.specs.Words.{can_stand_apart as stands_apart};
-ghost use Rattle.nn_top.specs.FormatWords.{BeginWith};
+ghost use Rattle.nn_top.specs.Begins.{BeginWith};
+ghost use Rattle.nn_top.specs.Options.{text_of, IsTaken, BeginWithNone};
 
-/// The value with which the words give this option first of all, and the words behind it.
-pub fn option_at<'a>(words: &'a [String], option: &[u8]) -> Option<(&'a [u8], &'a [String])>
+/// An option of some command.
+#[derive(Clone, Copy, Debug, PartialEq, Eq)]
+pub enum OptionName {
+    /// `--cluster`, the id of a new cluster.
+    Cluster,
+    /// `--namespace`, the number of a new namespace.
+    Namespace,
+    /// `--at`, the clock as a run starts, in milliseconds.
+    At,
+}
+
+impl OptionName {
+    fn text(self) -> &'static [u8]
+        ensures { result.now ≡ text_of self }
+    {
+        match self {
+            OptionName::Cluster => b"--cluster",
+            OptionName::Namespace => b"--namespace",
+            OptionName::At => b"--at",
+        }
+    }
+}
+
+/// The option with which the words begin, if it is one of these, its value, and the words behind that.
+pub fn first_option<'a>(
+    names: &[OptionName],
+    words: &'a [String],
+) -> Option<(OptionName, &'a [u8], &'a [String])>
+    ensures { MatchOption result (BeginWithNone names.now (texts words.now)) (λ found. IsTaken names.now found.0 × BeginWith (texts words.now) (text_of found.0) found.1.now (texts found.2.now)) }
+{
+    let (name, later) = names.split_first()?;
+    match option_at(words, name.text()) {
+        Some((value, rest)) => Some((*name, value, rest)),
+        None => first_option(later, words),
+    }
+}
+
+// The value with which the words give this option first of all, and the words behind it.
+fn option_at<'a>(words: &'a [String], option: &[u8]) -> Option<(&'a [u8], &'a [String])>
     ensures { MatchOption result ((value : W) (rest : List W) → BeginWith (texts words.now) option.now value rest → ⊥) (λ found. BeginWith (texts words.now) option.now found.0.now (texts found.1.now)) }
 {
     let (first, later) = words.split_first()?;

@@ -5,7 +5,7 @@ use Rattle.nn_top.specs.Wanted.{Wanted, Format}
 use Rattle.nn_top.specs.Commands.{wanted_by, wanted_in}
 use Rattle.nn_top.specs.Did.{Did}
 use Rattle.nn_top.specs.declared.words.Command.{Command}
-use Rattle.nn_top.proofs.ReadingLemmas.{format_range, one_reading}
+use Rattle.nn_top.proofs.ReadingLemmas.{format_range, one_reading, run_range}
 use Rattle.nn_top.proofs.run.namenode.Goals as goal
 
 pub run_format-requires-clause-some : goal.run_format-requires-clause-some
@@ -26,3 +26,9 @@ returns-in-Format-clause-did g c = λ wanted asks.
     let asked = subst (λ (command : Command). wanted_by words ≡ Some (wanted_in command)) c.in-Format.is c.in-Some.ensures.some in
     subst (λ (w : Wanted). Did g.H.Host.told g.S.Source.told g.S.Source.left g.S.Source.faults w c.args.source.now c.args.source.now (g.H.Host.state c.args.host.now) (g.H.Host.state c.run_format.new.host) c.run_format.result)
     (one_reading words (Format c.in-Format.cluster c.in-Format.namespace (texts c.in-Format.dirs.now)) wanted asked asks) (refl, c.run_format.ensures)
+
+pub run_dirs-requires : goal.run_dirs-requires
+run_dirs-requires g c =
+    let words = texts c.args.words.now in
+    let asked = subst (λ (command : Command). wanted_by words ≡ Some (wanted_in command)) c.in-Run.is c.in-Some.ensures.some in
+    run_range words c.in-Run.at (texts c.in-Run.dirs.now) asked

@@ -4,7 +4,7 @@ use Rattle.std.specs.List.{list_all}
 use Rattle.std.proofs.lemmas.List.Sums.{prefix_len-le-length}
 use Rattle.nn_top.specs.Words.{texts, is_plain}
 use Rattle.nn_top.specs.Parts.{parts_of, is_dir}
-use Rattle.nn_top.specs.FormatWords.{begins}
+use Rattle.nn_top.specs.Begins.{begins}
 use Rattle.nn_top.proofs.WordsLemmas.{is_plain_text, plain_front, split_texts, unplain_rest}
 use Rattle.nn_top.proofs.PartsLemmas.{plain_parts}
 use Rattle.nn_top.proofs.words.plain_split.Goals as goal

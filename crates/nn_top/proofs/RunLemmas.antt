@@ -1,0 +1,250 @@
+-- The record of a run over directories, from its command's end to the return: the last line keeps what was kept.
+use Rattle.std.proofs.Common.{◌≡◌, inl, inr, ⊎_elim, ℕ, ◌≤◌, Bool, false, List, [], ◌∷◌, ◌++◌, take, drop, length, refl, sym, ◌∙◌, ap, subst, append_assoc, if◌then◌else◌, arith}
+use Rattle.std.specs.List.{Contains}
+use Rattle.std.proofs.lemmas.Bool.{false≢true}
+use Rattle.std.proofs.lemmas.List.{append-nil, take-append-drop, take_all}
+use Rattle.std.proofs.lemmas.List.Elements.{All-weaker}
+use Rattle.nn_base.specs.Paths.{Bytes}
+use Rattle.nn_base.specs.declared.sub.Sub.TheVariants.{Current}
+use Rattle.nn_base.specs.declared.file_name.FileName.TheVariants.{InProgress}
+use Rattle.nn_host.specs.Moments.{Entry, Dir, State, IsLawful, faults_at}
+use Rattle.nn_host.specs.Disk.{Reads}
+use Rattle.nn_host.specs.Calls.{next_count}
+use Rattle.nn_host.specs.Runs.{Throughout}
+use Rattle.nn_host.proofs.RunsLemmas.{throughout_told, throughout_trans, throughout_weaker}
+use Rattle.nn_pick.specs.Opening.{Opening}
+use Rattle.nn_say.specs.Saying.{SaysFronts}
+use Rattle.nn_run.specs.Running.{Asked}
+use Rattle.nn_run.specs.Course.{RunAsked, answers_of, course_of, RunKept}
+use Rattle.nn_whole.specs.Closed.{closing_lines, IsEarlyLine}
+use Rattle.nn_whole.specs.Counted.{SeenWithin}
+use Rattle.nn_whole.specs.Served.{SeenTruly}
+use Rattle.nn_whole.proofs.ClosedLemmas.{closed_is_kept, early_is_kept}
+use Rattle.nn_whole.proofs.LeavingLemmas.{more_is_said}
+use Rattle.nn_whole.proofs.StoppedLemmas.{run_kept_leaves}
+use Rattle.nn_server.specs.declared.status.Status.{Status}
+use Rattle.nn_server.specs.declared.status.Status.TheVariants as outcome
+use Rattle.nn_server.specs.Came.{Speaks, CameTo}
+use Rattle.nn_serve.specs.declared.ending.RunEnd.{RunEnd}
+use Rattle.nn_serve.specs.declared.ending.RunEnd.TheVariants.{Ended, Refused, HostFault, NoneLeft, SourceFault, ScriptTooLong, Memory, OutFault}
+use Rattle.nn_serve.specs.Ended.{run_status}
+use Rattle.nn_serve.specs.Ran.{RunSays, RunRan, LeavesLast, CausedBy, BeginsSoundly, asked_at}
+use Rattle.nn_top.specs.Lines.{last_line}
+use Rattle.nn_top.specs.Closes.{is_made, IsLast, ClosesWhole, ClosesCut, Closes, Closing}
+use Rattle.nn_top.specs.Runs.{RunDid}
+use Rattle.nn_top.proofs.ClosesLemmas.{closes_after}
+
+-- ---- last lines of a run
+
+-- a status whose line needn't be made has just that line
+just_last : {last : Status} (status : Status) → is_made status ≡ false → IsLast status last → last ≡ status
+just_last status plain (inl is) = is
+just_last status plain (inr memory) = absurd (false≢true (sym plain ∙ memory.1))
+
+no_memory : Contains closing_lines (last_line outcome.Memory)
+no_memory = (4, omega arith, refl)
+
+says_stopped : {last : Status} → IsLast outcome.Stopped last → Contains closing_lines (last_line last)
+says_stopped is = rw (just_last outcome.Stopped refl is) (0, omega arith, refl)
+
+says_none_left : {last : Status} → IsLast outcome.NoneLeft last → Contains closing_lines (last_line last)
+says_none_left is = rw (just_last outcome.NoneLeft refl is) (1, omega arith, refl)
+
+says_source_fault : {last : Status} → IsLast outcome.SourceFault last → Contains closing_lines (last_line last)
+says_source_fault is = rw (just_last outcome.SourceFault refl is) (2, omega arith, refl)
+
+says_too_long : {last : Status} → IsLast outcome.ScriptTooLong last → Contains closing_lines (last_line last)
+says_too_long is = rw (just_last outcome.ScriptTooLong refl is) (3, omega arith, refl)
+
+says_memory : {last : Status} → IsLast outcome.Memory last → Contains closing_lines (last_line last)
+says_memory is = rw (just_last outcome.Memory refl is) no_memory
+
+-- a run that didn't start is refused, tells of a directory that failed, or of want of memory
+says_early : {last : Status} (status : Status) → IsEarlyLine (last_line status) → IsLast status last → IsEarlyLine (last_line last)
+says_early status early (inl is) = rw is early
+says_early status early (inr memory) = rw memory.0 (inr (inr no_memory))
+
+-- where the output failed before, nothing more is done
+silent_same : {told : Type 0} {b c : State} {result : Status} → Closing told b c outcome.OutFault result → c ≡ b
+silent_same closing = ⊎_elim (λ silent. silent.2) (λ said. absurd (false≢true (sym said.0))) closing.ends
+
+-- ---- what was kept
+
+-- the lines that were answered, and the others
+split_seen : (reached : ℕ) (seen rest : List Asked) → take reached seen ++ (drop reached seen ++ rest) ≡ seen ++ rest
+split_seen reached seen rest = sym (append_assoc (take reached seen) (drop reached seen) rest) ∙ ap (λ lines. lines ++ rest) (take-append-drop reached seen)
+
+module _ (asked : RunAsked) (ctime : ℕ) (opened : Opening) (seen : List Asked) (reached : ℕ) (a b c : State) where
+  abbrev answers : List Asked → Bytes
+  answers lines = answers_of asked a.count ctime opened lines
+
+  -- with the answers to all lines that were read
+  whole_kept : (ahead : ℕ → Bool) (rest : List Asked) (text : Bytes) (last : Status) → b.now.said ≡ a.now.said ++ text → text ≡ answers seen → Contains closing_lines (last_line last) → SaysFronts (Unit {0}) b c (last_line last)
+      → RunKept (Unit {0}) (course_of asked a.count ctime opened (seen ++ rest) ahead) a b → RunKept (Unit {0}) (course_of asked a.count ctime opened (seen ++ rest) ahead) a c
+  whole_kept ahead rest text last said is closing fronts kept =
+      closed_is_kept asked ctime opened ahead seen rest (last_line last) a b c (said ∙ ap (λ (t : Bytes). a.now.said ++ t) is) closing kept fronts
+
+  -- with those to some
+  some_kept : (ahead : ℕ → Bool) (rest : List Asked) (text : Bytes) (last : Status) → b.now.said ≡ a.now.said ++ text → text ≡ answers (take reached seen) → Contains closing_lines (last_line last) → SaysFronts (Unit {0}) b c (last_line last)
+      → RunKept (Unit {0}) (course_of asked a.count ctime opened (seen ++ rest) ahead) a b → RunKept (Unit {0}) (course_of asked a.count ctime opened (seen ++ rest) ahead) a c
+  some_kept ahead rest text last said is closing fronts kept =
+      let split = split_seen reached seen rest in
+      subst (λ (lines : List Asked). RunKept (Unit {0}) (course_of asked a.count ctime opened lines ahead) a c) split
+      (closed_is_kept asked ctime opened ahead (take reached seen) (drop reached seen ++ rest) (last_line last) a b c (said ∙ ap (λ (t : Bytes). a.now.said ++ t) is) closing
+      (subst (λ (lines : List Asked). RunKept (Unit {0}) (course_of asked a.count ctime opened lines ahead) a b) (sym split) kept) fronts)
+
+  -- with none
+  none_kept : (ahead : ℕ → Bool) (rest : List Asked) (text : Bytes) (last : Status) → b.now.said ≡ a.now.said ++ text → text ≡ [] → IsEarlyLine (last_line last) → SaysFronts (Unit {0}) b c (last_line last)
+      → RunKept (Unit {0}) (course_of asked a.count ctime opened (seen ++ rest) ahead) a b → RunKept (Unit {0}) (course_of asked a.count ctime opened (seen ++ rest) ahead) a c
+  none_kept ahead rest text last said none early fronts kept =
+      early_is_kept asked ctime opened ahead (seen ++ rest) (last_line last) a b c (said ∙ (ap (λ (t : Bytes). a.now.said ++ t) none ∙ append-nil a.now.said)) early kept fronts
+
+  pub kept_on : {told : Type 0} {result : Status} (ahead : ℕ → Bool) (rest : List Asked) (text : Bytes) (end : RunEnd) → told → b.now.said ≡ a.now.said ++ text → RunSays answers seen reached end text → Closing told b c (run_status end) result
+      → RunKept (Unit {0}) (course_of asked a.count ctime opened (seen ++ rest) ahead) a b → RunKept (Unit {0}) (course_of asked a.count ctime opened (seen ++ rest) ahead) a c
+  kept_on ahead rest text Ended tells said says closing kept = whole_kept ahead rest text closing.last said says.1 (says_stopped closing.is_last) (throughout_told (λ u. tells) closing.fronts) kept
+  kept_on ahead rest text (Refused refusal) tells said says closing kept =
+      none_kept ahead rest text closing.last said says.0 (says_early (outcome.Refused refusal) (inl (refusal, refl)) closing.is_last) (throughout_told (λ u. tells) closing.fronts) kept
+  kept_on ahead rest text (HostFault i) tells said says closing kept =
+      none_kept ahead rest text closing.last said says.0 (says_early (outcome.HostFault i) (inr (inl (i.0, refl))) closing.is_last) (throughout_told (λ u. tells) closing.fronts) kept
+  kept_on ahead rest text NoneLeft tells said says closing kept = some_kept ahead rest text closing.last said says (says_none_left closing.is_last) (throughout_told (λ u. tells) closing.fronts) kept
+  kept_on ahead rest text SourceFault tells said says closing kept = whole_kept ahead rest text closing.last said says.1 (says_source_fault closing.is_last) (throughout_told (λ u. tells) closing.fronts) kept
+  kept_on ahead rest text ScriptTooLong tells said says closing kept = whole_kept ahead rest text closing.last said says.1 (says_too_long closing.is_last) (throughout_told (λ u. tells) closing.fronts) kept
+  kept_on ahead rest text Memory tells said (inl none) closing kept =
+      none_kept ahead rest text closing.last said none.0 (inr (inr (says_memory closing.is_last))) (throughout_told (λ u. tells) closing.fronts) kept
+  kept_on ahead rest text Memory tells said (inr is) closing kept = some_kept ahead rest text closing.last said is (says_memory closing.is_last) (throughout_told (λ u. tells) closing.fronts) kept
+  kept_on ahead rest text OutFault tells said says closing kept =
+      subst (λ (s : State). RunKept (Unit {0}) (course_of asked a.count ctime opened (seen ++ rest) ahead) a s) (sym (silent_same closing)) kept
+
+  -- ---- what was seen
+
+  all_reached : reached ≡ length seen → take reached seen ≡ seen
+  all_reached all = take_all reached seen (omega (arith, all))
+
+  none_reached : seen ≡ [] → take reached seen ≡ []
+  none_reached none = take_all reached seen (omega (arith, ap length none)) ∙ none
+
+  fronts_said : (last : Status) → SaysFronts (Unit {0}) b c (last_line last) → Throughout (Unit {0}) b c (λ m. (n : ℕ) × (m.said ≡ b.now.said ++ take n (last_line last)))
+  fronts_said last fronts = throughout_weaker fronts (λ u m is. (is.1, is.2))
+
+  seen_more : (text : Bytes) (last : Status) → b.now.said ≡ a.now.said ++ text → text ≡ answers (take reached seen) → SaysFronts (Unit {0}) b c (last_line last) → SeenTruly answers (take reached seen) a b → SeenTruly answers (take reached seen) a c
+  seen_more text last said is fronts truly =
+      more_is_said asked ctime opened (take reached seen) (last_line last) a b c (said ∙ ap (λ (t : Bytes). a.now.said ++ t) is) truly (fronts_said last fronts)
+
+  no_line : (before later : List Asked) (next : Asked) → [] ≡ before ++ next ∷ later → ⊥
+  no_line [] later next is = cc
+  no_line (first ∷ before) later next is = cc
+
+  seen_none : (last : Status) → seen ≡ [] → SaysFronts (Unit {0}) b c (last_line last) → SeenTruly answers (take reached seen) a b → SeenTruly answers (take reached seen) a c
+  seen_none last none fronts truly = record {
+    live = truly.live;
+    at = throughout_trans truly.at (throughout_weaker fronts (λ u m is. λ before next later split. absurd (no_line before later next (sym (none_reached none) ∙ split))));
+  }
+
+  pub seen_on : {told : Type 0} {result : Status} (text : Bytes) (end : RunEnd) → told → b.now.said ≡ a.now.said ++ text → RunSays answers seen reached end text → Closing told b c (run_status end) result
+      → SeenTruly answers (take reached seen) a b → SeenTruly answers (take reached seen) a c
+  seen_on text Ended tells said says closing truly = seen_more text closing.last said (says.1 ∙ ap answers (sym (all_reached says.0))) (throughout_told (λ u. tells) closing.fronts) truly
+  seen_on text (Refused refusal) tells said says closing truly = seen_none closing.last says.1 (throughout_told (λ u. tells) closing.fronts) truly
+  seen_on text (HostFault i) tells said says closing truly = seen_none closing.last says.1 (throughout_told (λ u. tells) closing.fronts) truly
+  seen_on text NoneLeft tells said says closing truly = seen_more text closing.last said says (throughout_told (λ u. tells) closing.fronts) truly
+  seen_on text SourceFault tells said says closing truly = seen_more text closing.last said (says.1 ∙ ap answers (sym (all_reached says.0))) (throughout_told (λ u. tells) closing.fronts) truly
+  seen_on text ScriptTooLong tells said says closing truly = seen_more text closing.last said (says.1 ∙ ap answers (sym (all_reached says.0))) (throughout_told (λ u. tells) closing.fronts) truly
+  seen_on text Memory tells said (inl none) closing truly = seen_none closing.last none.1 (throughout_told (λ u. tells) closing.fronts) truly
+  seen_on text Memory tells said (inr is) closing truly = seen_more text closing.last said is (throughout_told (λ u. tells) closing.fronts) truly
+  seen_on text OutFault tells said says closing truly = subst (λ (s : State). SeenTruly answers (take reached seen) a s) (sym (silent_same closing)) truly
+
+-- ---- counts and reads
+
+caused_on : (a b c : State) (end : RunEnd) → ((j : ℕ) → faults_at c j ≡ faults_at b j) → CausedBy a b end → CausedBy a c end
+caused_on a b c Ended same caused = (caused.0, caused.1, same caused.0 ∙ caused.2)
+caused_on a b c (Refused refusal) same caused = record { faults = λ j. same j ∙ caused.faults j }
+caused_on a b c (HostFault i) same caused = (caused.0, same i.0 ∙ caused.1)
+caused_on a b c NoneLeft same caused = λ i below. same i ∙ caused i below
+caused_on a b c SourceFault same caused = caused
+caused_on a b c ScriptTooLong same caused = caused
+caused_on a b c Memory same caused = caused
+caused_on a b c OutFault same caused = caused
+
+-- whether the output failed by the command's end, where it hadn't by the return
+out_before : {told : Type 0} {a b c : State} {text : Bytes} {result : Status} (status : Status) → Speaks told a b text status → Closing told b c status result → c.now.out_faults ≡ a.now.out_faults → b.now.out_faults ≡ a.now.out_faults
+out_before {told} {a} {b} {c} {text} {result} status speaks closing same = ⊎_elim
+    (λ silent. ap (λ (s : State). s.now.out_faults) (sym silent.2) ∙ same)
+    (λ said. speaks.counted ∙ ap (λ (failed : Bool). if failed then next_count a.now.out_faults else a.now.out_faults) said.0)
+    closing.ends
+
+-- ---- the record
+
+-- what was left of sound directories by done work
+leaves_on : (at : ℕ) (a b c : State) (begins : BeginsSoundly a) (seen : List Asked) → c.now.dirs ≡ b.now.dirs → c.count ≡ b.count → ((i : ℕ) → c.reads i ≡ b.reads i) → LeavesLast (asked_at at) begins.sound.opens.version.ctime begins.sound.opened seen a b
+    → LeavesLast (asked_at at) begins.sound.opens.version.ctime begins.sound.opened seen a c
+leaves_on at a b c begins seen dirs count reads leaves = record {
+  opens = λ ahead after same listed lawful. leaves.opens ahead after (same ∙ dirs) (listed ∙ count) lawful;
+  ended = λ i first below fresh kept range. ap (λ (r : Reads). r.file Current (InProgress first)) (reads i) ∙ leaves.ended i first below fresh (sym (ap (λ (d : ℕ → Dir). (d i).faults) dirs) ∙ kept) range;
+}
+
+within_on : (a b c : State) (seen : List Asked) → ((j : ℕ) → faults_at c j ≡ faults_at b j) → SeenWithin seen a b → SeenWithin seen a c
+within_on a b c seen same within =
+    All-weaker (λ (asked : Asked). (i : ℕ) → (faults_at a i ≤ asked.sight.faults i) × (asked.sight.faults i ≤ faults_at b i)) (λ (asked : Asked). (i : ℕ) → (faults_at a i ≤ asked.sight.faults i) × (asked.sight.faults i ≤ faults_at c i))
+    (λ asked is i. ((is i).0, subst (λ (n : ℕ). asked.sight.faults i ≤ n) (sym (same i)) (is i).1)) seen within
+
+module _ {told told_source : Type 0} {at : ℕ} {script left : Bytes} {before after : ℕ} {a b c : State} {text : Bytes} {result : Status} (end : RunEnd)
+    (speaks : Speaks told a b text (run_status end)) (ran : RunRan told told_source at script left before after a b text end) (closing : Closing told b c (run_status end) result) where
+  abbrev same_faults : (j : ℕ) → faults_at c j ≡ faults_at b j
+  same_faults = closing.dirs.faults
+
+  pub run_on : RunRan told told_source at script left before after a c text end
+  run_on = record {
+    seen = ran.seen;
+    read = ran.read;
+    reached = ran.reached;
+    most = ran.most;
+    said = λ tells opened opens unsaved.
+        let says = ran.said tells opened opens unsaved in
+        (says.0, seen_on (asked_at at) opens.version.ctime opened ran.seen ran.reached a b c text end tells (speaks.said tells) says.0 closing says.1);
+    kept = λ tells begins ahead rest.
+        let says = ran.said tells begins.sound.opened begins.sound.opens begins.unsaved in
+        kept_on (asked_at at) begins.sound.opens.version.ctime begins.sound.opened ran.seen ran.reached a b c ahead rest text end tells (speaks.said tells) says.0 closing (ran.kept tells begins ahead rest);
+    ended = λ tells is begins. leaves_on at a b c begins ran.seen (closing.fronts.ends tells).0 closing.fronts.count (λ i. closing.dirs.reads tells i) (ran.ended tells is begins);
+    refused = λ tells refusal.
+        let refused = ran.refused tells refusal in
+        (λ is. let by = refused.0 is in (by.0, λ i. closing.dirs.reads tells i ∙ by.1 i), refused.1);
+    cause = caused_on a b c end same_faults ran.cause;
+    live = (ran.live.0, within_on a b c (take ran.reached ran.seen) same_faults ran.live.1);
+    complete = λ tells tells' opened opens short early unread fresh unsaid i below counted kept.
+        ran.complete tells tells' opened opens short early unread fresh (out_before (run_status end) speaks closing unsaid) i below counted (sym (same_faults i) ∙ kept);
+  }
+
+-- only done work stops
+stopped_ended : (end : RunEnd) → run_status end ≡ outcome.Stopped → end ≡ Ended
+stopped_ended Ended is = refl
+stopped_ended (Refused refusal) is = cc
+stopped_ended (HostFault i) is = cc
+stopped_ended NoneLeft is = cc
+stopped_ended SourceFault is = cc
+stopped_ended ScriptTooLong is = cc
+stopped_ended Memory is = cc
+stopped_ended OutFault is = cc
+
+stopped_so : {told : Type 0} {a c : State} {trace : List Entry} {lines : Bytes} {result : Status} (end : RunEnd) → Closes told trace a c lines (run_status end) result → result ≡ outcome.Stopped → end ≡ Ended
+stopped_so {told} {a} {c} {trace} {lines} {result} end closes is = ⊎_elim
+    (λ (all : ClosesWhole told trace a c lines (run_status end) result). ⊎_elim
+    (λ same. stopped_ended end (sym same ∙ is))
+    (λ memory. let no : outcome.Memory ≡ outcome.Stopped = sym memory.0 ∙ is in cc)
+    all.is_last)
+    (λ (front : ClosesCut told trace a c lines (run_status end) result). let no : outcome.OutFault ≡ outcome.Stopped = sym front.failed ∙ is in cc)
+    closes
+
+-- a run over directories was closed
+pub run_did : {told told_source : Type 0} {at : ℕ} {script left : Bytes} {before after : ℕ} {a b c : State} (end : RunEnd) (result : Status) → (told → IsLawful a) → (told → IsLawful c)
+    → CameTo told a b run_status (λ lines trace. RunRan told told_source at script left before after a b lines) end → Closing told b c (run_status end) result → RunDid told told_source at script left before after a c result
+run_did {told} {told_source} {at} {script} {left} {before} {after} {a} {b} {c} end result lawful lawful_after came closing = record {
+  ended = record { end = end; lines = came.lines; trace = b.trace; ran = whole; closes = closes };
+  stops = λ tells begins ahead rest.
+      run_kept_leaves (asked_at at) begins.sound.opens.version.ctime begins.sound.opened (whole.seen ++ rest) ahead a c (lawful tells) (whole.kept tells begins ahead rest);
+  stopped = λ tells is begins ahead. (whole.ended tells (stopped_so end closes is) begins).opens ahead c refl refl (lawful_after tells);
+}
+  where
+    whole : RunRan told told_source at script left before after a c came.lines end
+    whole = run_on end came.speaks came.ran closing
+
+    closes : Closes told b.trace a c came.lines (run_status end) result
+    closes = closes_after (run_status end) result came.speaks closing
