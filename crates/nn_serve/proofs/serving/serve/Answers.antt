@@ -1,4 +1,4 @@
-use Rattle.std.proofs.Common.{refl, sym, ◌∙◌, ap, subst, arith}
+use Rattle.std.proofs.Common.{◌++◌, refl, sym, ◌∙◌, ap, subst, arith}
 use Rattle.nn_base.proofs.DirSetLemmas.{at_most_eight}
 use Rattle.nn_host.specs.Calls.{next_count}
 use Rattle.nn_reader.specs.Reader.{ahead, budget}
@@ -38,7 +38,7 @@ returns-in-Err-answer g c = λ at origin serving room.
 pub close-requires-clause-ids : goal.close-requires-clause-ids
 close-requires-clause-ids g c =
     let last = last_read_so c.in-Ok-Last.field-0 c.in-Ok-Last.field-0-is c.line-in-Ok-Last.ensures c.in-Ok-Last.ensures.ok in
-    omega (arith, c.lines.invariant.ids, c.in-Ok-answer.ensures.last, last_budget last)
+    omega (arith, c.lines.invariant.ids, c.in-Ok-answer.ensures.last, last_budget {before = ahead c.lines.reader ++ g.S.Source.left c.lines.source} {after = ahead c.next.new.self ++ g.S.Source.left c.next.new.source} last)
 
 pub returns-in-Ok-answer : goal.returns-in-Ok-answer
 returns-in-Ok-answer g c = λ at origin serving room.
