@@ -185,7 +185,7 @@ module _ {told : Type 0} (at count : ℕ) (ns : Namespace) (journal : JournalSet
             let is = has_begun.opens t opened opens none in
             let all = answers_of (asked_at at) old.count opens.version.ctime opened [] in
             let whole : all ≡ bytes = ap text_of (append-nil (opening_of (asked_at at) opens.version.ctime opened)) ∙ opening_is opened is.1 opens.version.ctime in (
-              (drop (front t).0 bytes, whole ∙ sym (take-append-drop (front t).0 bytes) ∙ ap (λ x. x ++ drop (front t).0 bytes) (sym (since_is old new (take (front t).0 bytes) (front t).1))),
+              ((drop (front t).0 bytes, whole ∙ sym (take-append-drop (front t).0 bytes) ∙ ap (λ x. x ++ drop (front t).0 bytes) (sym (since_is old new (take (front t).0 bytes) (front t).1))), inl refl),
               none_seen (answers_of (asked_at at) old.count opens.version.ctime opened) old new
                   (throughout_trans (any_moment (quiet_too old s has_begun.quiet t).each) (any_moment (throughout_told (λ (u : Unit {0}). t) (says_line spoke)))),
             ));

@@ -196,10 +196,10 @@ module _ {told : Type 0} (at count : ℕ) (ns : Namespace) (time : ℕ) (journal
         (λ t opened opens none. (
         let all = answers_of (asked_at at) old.count opens.version.ctime opened seen in
         let answer = (reply_at count (running ns time) next).text in
-        let n = (front t).0 in (
-          drop n answer,
-          text_of_next t opened opens none next ∙ ap (λ x. all ++ x) (sym (take-append-drop n answer)) ∙ sym (append_assoc all (take n answer) (drop n answer))
-              ∙ ap (λ x. x ++ drop n answer) (ap (λ x. x ++ take n answer) (sym (here_answers t opened opens none)) ∙ sym (since_is old new (said_of old s ++ take n answer) (front t).1)),
+        let n = (front t).0 in
+        let is : said_of old new ≡ all ++ take n answer = since_is old new (said_of old s ++ take n answer) (front t).1 ∙ ap (λ x. x ++ take n answer) (here_answers t opened opens none) in (
+          (drop n answer, text_of_next t opened opens none next ∙ ap (λ x. all ++ x) (sym (take-append-drop n answer)) ∙ sym (append_assoc all (take n answer) (drop n answer)) ∙ ap (λ x. x ++ drop n answer) (sym is)),
+          inr (take n answer, is ∙ ap (λ l. answers_of (asked_at at) old.count opens.version.ctime opened l ++ take n answer) (sym (all_but_next next))),
         )))
         (fronts_of end.OutFault stepped) (step_kept end.OutFault stepped)
 

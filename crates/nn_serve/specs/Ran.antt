@@ -32,7 +32,7 @@ lines_of_all seen = map (λ asked. asked.line) seen
 
 -- ---- what is said
 
--- what was said, by the answers to some lines behind the opening: nothing, where the run never started; the answers to all lines that were read, where nothing else ended it; those to the lines that were answered; or a front of them, where the output failed
+-- what was said, by the answers to some lines behind the opening: nothing, where the run never started; the answers to all lines that were read, where nothing else ended it; those to the lines that were answered; or, where the output failed, a front of them with those before the one over which it did
 abbrev pub RunSays : (List Asked → Bytes) → List Asked → ℕ → RunEnd → Bytes → Type 0
 RunSays answers seen reached Ended text = (reached ≡ length seen) × (text ≡ answers seen)
 RunSays answers seen reached (Refused refusal) text = (text ≡ []) × (seen ≡ [])
@@ -41,7 +41,7 @@ RunSays answers seen reached NoneLeft text = text ≡ answers (take reached seen
 RunSays answers seen reached SourceFault text = (reached ≡ length seen) × (text ≡ answers seen)
 RunSays answers seen reached ScriptTooLong text = (reached ≡ length seen) × (text ≡ answers seen)
 RunSays answers seen reached Memory text = ((text ≡ []) × (seen ≡ [])) ⊎ (text ≡ answers (take reached seen))
-RunSays answers seen reached OutFault text = (later : Bytes) × (answers seen ≡ text ++ later)
+RunSays answers seen reached OutFault text = ((later : Bytes) × (answers seen ≡ text ++ later)) × ((seen ≡ []) ⊎ ((more : Bytes) × (text ≡ answers (take reached seen) ++ more)))
 
 -- ---- how it begins
 
