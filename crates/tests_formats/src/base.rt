@@ -41,7 +41,7 @@ const NAMES: [(&str, FileName); 12] = [
     ),
 ];
 
-const OTHERS: [&str; 14] = [
+static OTHERS: [&str; 14] = [
     "",
     "version",
     "VERSION.tmp2",
@@ -58,6 +58,10 @@ const OTHERS: [&str; 14] = [
     "edits_inprogress_0000000000000000000",
 ];
 
+fn others() -> &'static [&'static str] {
+    &OTHERS
+}
+
 #[test]
 fn a_name_is_written_and_read_by_its_one_text(rt: HostRuntime) -> Result<(), Fail> {
     for (text, name) in NAMES {
@@ -67,7 +71,7 @@ fn a_name_is_written_and_read_by_its_one_text(rt: HostRuntime) -> Result<(), Fai
         let read = FileName::parse(text.as_bytes()).ok_or(text)?;
         assert!(rt; read == name, "{text}");
     }
-    for text in OTHERS {
+    for &text in others() {
         assert!(rt; FileName::parse(text.as_bytes()).is_none(), "{text}");
     }
     Ok(())
@@ -98,7 +102,7 @@ fn a_word_has_one_to_255_bytes_that_print(rt: HostRuntime) -> Result<(), Fail> {
 }
 
 // Texts of paths with their first fault.
-const TEXTS: [(&[u8], Option<PathFault>); 16] = [
+static TEXTS: [(&[u8], Option<PathFault>); 16] = [
     (b"/", None),
     (b"/a", None),
     (b"/...", None),
@@ -117,8 +121,13 @@ const TEXTS: [(&[u8], Option<PathFault>); 16] = [
     (b"/a\0", Some(PathFault::BadName)),
 ];
 
+// The table, by reference: a function that named it would be proved with each of its rows.
+fn texts() -> &'static [(&'static [u8], Option<PathFault>)] {
+    &TEXTS
+}
+
 // Texts of parts, so many of so many letters each.
-const LONG_TEXTS: [(&[(usize, usize)], Option<PathFault>); 10] = [
+static LONG_TEXTS: [(&[(usize, usize)], Option<PathFault>); 10] = [
     (&[(1, 255)], None),
     (&[(1, 256)], Some(PathFault::LongName)),
     (&[(1, 0), (1, 256)], Some(PathFault::BadName)),
@@ -131,15 +140,19 @@ const LONG_TEXTS: [(&[(usize, usize)], Option<PathFault>); 10] = [
     (&[(1001, 1), (1, 0)], Some(PathFault::BadName)),
 ];
 
+fn long_texts() -> &'static [(&'static [(usize, usize)], Option<PathFault>)] {
+    &LONG_TEXTS
+}
+
 #[test]
 fn a_text_has_its_first_fault_or_is_that_of_the_path_that_was_read(
     rt: HostRuntime,
 ) -> Result<(), Fail> {
     let alloc = rt.alloc();
-    for (text, fault) in TEXTS {
+    for &(text, fault) in texts() {
         assert!(rt; is_told(alloc, text, fault)?, "at {text:?}");
     }
-    for (parts, fault) in LONG_TEXTS {
+    for &(parts, fault) in long_texts() {
         let text = letters(alloc, parts)?;
         assert!(rt; is_told(alloc, &text, fault)?, "at {parts:?}");
     }
