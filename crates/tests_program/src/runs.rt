@@ -2,6 +2,7 @@
 ghost use Rattle.std.specs.Prelude.{◌≡◌, ◌≤◌, ◌<◌, OnOk};
 ghost use Rattle.nn_memhost.specs.Mem.{mem_state};
 
+mod running;
 mod scripts;
 
 use nn_base::{DirNo, FileName, NoMemory, Sub};

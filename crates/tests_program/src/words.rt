@@ -57,6 +57,46 @@ const FORMAT: [(&str, Option<&str>); 26] = [
     ("state --cluster c1 --namespace 7 A", None),
 ];
 
+// The same of `run`.
+const RUN: [(&str, Option<&str>); 36] = [
+    ("run", None),
+    ("run --", None),
+    ("run --at 5", None),
+    ("run A", Some("A")),
+    ("run B A --", Some("B A")),
+    ("run -- -x --", Some("-x --")),
+    ("run a b c d e f g h", Some("a b c d e f g h")),
+    ("run a b c d e f g h i", None),
+    ("run A A", None),
+    ("run --at 5 A", Some("A")),
+    ("run --at=5 A", Some("A")),
+    ("run A --at 5", Some("A")),
+    ("run A --at=5 --", Some("A")),
+    ("run --at 5 -- A", Some("A")),
+    ("run --at=5 -- --at=6 -", Some("--at=6 -")),
+    ("run --at 0 A", Some("A")),
+    ("run --at 0000000000000000005 A", Some("A")),
+    ("run --at 00000000000000000005 A", None),
+    ("run --at 9223372036854775807 A", Some("A")),
+    ("run --at 9223372036854775808 A", None),
+    ("run --at -5 A", None),
+    ("run --at=-5 A", None),
+    ("run --at 5s A", None),
+    ("run --at= A", None),
+    ("run --at A", None),
+    ("run A --at", None),
+    ("run --at 1 --at 2 A", None),
+    ("run --at=1 A --at=1", None),
+    ("run A --at 5 B", None),
+    ("run A -- B", None),
+    ("run --help", None),
+    ("run -h A", None),
+    ("run --batch 0 A", None),
+    ("run --cluster c1 A", None),
+    ("state --at 5 A", None),
+    ("dry --at 5", None),
+];
+
 // Odd lines of each command.
 const ODD: [(&str, Option<&str>); 42] = [
     ("state -- A -- B", Some("A -- B")),
@@ -144,6 +184,18 @@ fn words_give_their_directories_or_usage(rt: HostRuntime) -> Result<(), Fail> {
 }
 
 #[test]
+fn words_of_run_give_their_directories_or_usage(rt: HostRuntime) -> Result<(), Fail> {
+    for (line, dirs) in &RUN {
+        let found = dirs_of(rt.alloc(), &split(rt.alloc(), line)?);
+        match dirs {
+            Some(dirs) => assert_eq!(rt; found?, split(rt.alloc(), dirs)?, "{line}"),
+            None => assert_eq!(rt; found.err(), Some(WordsFault::Usage), "{line}"),
+        }
+    }
+    Ok(())
+}
+
+#[test]
 fn odd_lines_are_read_as_any_other(rt: HostRuntime) -> Result<(), Fail> {
     for (line, dirs) in &ODD {
         let found = dirs_of(rt.alloc(), &split(rt.alloc(), line)?);
@@ -195,5 +247,27 @@ fn format_is_read_with_its_cluster_and_namespace(rt: HostRuntime) -> Result<(), 
     let words = split(rt.alloc(), "format --cluster=c1 --namespace 7 A")?;
     let command = command_of(&words);
     assert!(rt; is_read(command.as_ref(), b"c1", 7));
+    Ok(())
+}
+
+fn is_read_at(command: Option<&Command<'_>>, time: u64) -> bool {
+    match command {
+        Some(Command::Run { at, .. }) => *at == time,
+        _ => false,
+    }
+}
+
+#[test]
+fn run_is_read_with_its_time(rt: HostRuntime) -> Result<(), Fail> {
+    let lines = [
+        ("run A", 0),
+        ("run --at 5 A", 5),
+        ("run A --at=0007", 7),
+        ("run --at 9223372036854775807 A", 9_223_372_036_854_775_807),
+    ];
+    for (line, time) in lines {
+        let words = split(rt.alloc(), line)?;
+        assert!(rt; is_read_at(command_of(&words).as_ref(), time), "{line}");
+    }
     Ok(())
 }
