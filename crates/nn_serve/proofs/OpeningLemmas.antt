@@ -1,7 +1,7 @@
 -- How a run begins: it comes to nothing, or says that it has started.
-use Rattle.std.proofs.Common.{◌≡◌, ◌≢◌, inl, inr, ℕ, ◌<◌, ◌≤◌, Bool, true, false, ◌||◌, List, [], ◌∷◌, ◌++◌, length, take, drop, map, Ok, Err, Result, refl, sym, ◌∙◌, ap, subst, arith}
+use Rattle.std.proofs.Common.{◌≡◌, ◌≢◌, inl, inr, ℕ, ◌<◌, ◌≤◌, Bool, true, false, ◌||◌, List, [], ◌∷◌, ◌++◌, length, take, drop, map, Ok, Err, Result, refl, sym, ◌∙◌, ap, subst, arith, All}
 use Rattle.std.specs.Prelude.{is_none}
-use Rattle.std.proofs.lemmas.List.{append-nil, length-append, take-append-drop}
+use Rattle.std.proofs.lemmas.List.{append-nil, length-append, take-append-drop, length-drop}
 use Rattle.std.proofs.lemmas.List.Elements.{All-nil}
 use Rattle.nn_base.specs.DirSets.{has}
 use Rattle.nn_base.specs.Paths.{Bytes}
@@ -41,7 +41,7 @@ use Rattle.nn_server.specs.Came.{is_out_fault}
 use Rattle.nn_serve.specs.declared.ending.RunEnd.{RunEnd}
 use Rattle.nn_serve.specs.declared.ending.RunEnd.TheVariants.{Ended, Refused, HostFault, Memory, OutFault}
 use Rattle.nn_serve.specs.Ended.{run_status, unstarted}
-use Rattle.nn_serve.specs.Ran.{asked_at, RunSays, BeginsSoundly, CausedBy, EndsUnopened}
+use Rattle.nn_serve.specs.Ran.{asked_at, RunSays, BeginsSoundly, CausedBy, EndsUnopened, IsOpeningAt, IsLeftAt}
 use Rattle.nn_serve.specs.Serving.{HasBegun, IsServing, EndsSo}
 use Rattle.nn_serve.proofs.SinceLemmas.{said_of, since_is, since_all, speaks_whole, never_refused}
 use Rattle.nn_serve.proofs.StartLemmas.{quiet_too, start_kept}
@@ -57,6 +57,9 @@ none_live old before asked later e = absurd (none_before before asked later e)
 
 none_within : (old new : State) → SeenWithin [] old new
 none_within old new = All-nil (λ (asked : Asked). (i : ℕ) → (faults_at old i ≤ asked.sight.faults i) × (asked.sight.faults i ≤ faults_at new i))
+
+none_left : (count : ℕ) → All (IsLeftAt count) []
+none_left count = All-nil (IsLeftAt count)
 
 any_moment : {told : Type 0} {a b : State} {Q : Moment → Type 0} → Throughout told a b Q → Throughout told a b (λ m. Unit {0})
 any_moment through = throughout_weaker through (λ t m is. tt)
@@ -79,6 +82,8 @@ unstarted_so at old s end whole goes quiet kept says refused cause = record {
   reached = 0;
   most = omega arith;
   said = λ t opened opens none. (says (answers_of (asked_at at) old.count opens.version.ctime opened), none_seen (answers_of (asked_at at) old.count opens.version.ctime opened) old s (quiet_too old s quiet t).each);
+  opening = λ t some. absurd (some refl);
+  some = λ there. none_left old.count;
   kept = λ t begins ahead rest. kept t begins ahead (map (λ (a : Asked). a.line) rest) rest refl;
   ended = λ t is begins. absurd (goes is);
   refused = refused;
@@ -151,11 +156,20 @@ module _ {told : Type 0} (at count : ℕ) (ns : Namespace) (journal : JournalSet
   all_live : (i : ℕ) → i < old.count → has journal.live i ≡ true
   all_live i below = has_begun.all i (subst (λ k. i < k) has_begun.listed below)
 
+  -- no count rose by then
+  opening_at : {T E : Type 0} {result : Result T E} → Spoke told bytes s new result → told → (opened : Opening) → Throughout (Unit {0}) old new (IsOpeningAt opened.last old)
+  opening_at spoke t opened = throughout_trans
+      (throughout_weaker (quiet_too old s has_begun.quiet t).each (λ u m out some few i. absurd (omega (arith, some, length-drop (length old.now.said) m.said, ap length out.said))))
+      (throughout_weaker (throughout_told (λ (u : Unit {0}). t) (says_line spoke)) (λ u m is some few i. ap (λ (dirs : ℕ → Dir). (dirs i).faults) is.0 ∙ has_begun.counts.faults i))
+
   pub said_so : {T E : Type 0} (done : T) → Spoke {T = T} {E = E} told bytes s new (Ok done) → IsServing told at count ns at journal [] old new
   said_so {T} {E} done spoke = record {
     listed = has_begun.listed;
     ready = record { listed = spoke.count ∙ has_begun.ready.listed; below = has_begun.ready.below; going = has_begun.ready.going; empty = has_begun.ready.empty; fit = has_begun.ready.fit };
     sees = first_is_seen (has journal.live) old new all_live (record { faults = same_now spoke });
+    some = λ there. (0, all_live 0 there);
+    left = λ there. none_left old.count;
+    opening = λ t opened opens none. opening_at spoke t opened;
     out = (out_whole_trans (out_whole_unspoken has_begun.quiet) (out_spoke spoke), spoke.counted_ok ∙ has_begun.quiet.now.out_faults);
     grew = λ t. (bytes, (spoke.ok t).said ∙ ap (λ x. x ++ bytes) has_begun.quiet.now.said);
     unrefused = has_begun.unrefused;
@@ -189,6 +203,8 @@ module _ {told : Type 0} (at count : ℕ) (ns : Namespace) (journal : JournalSet
               none_seen (answers_of (asked_at at) old.count opens.version.ctime opened) old new
                   (throughout_trans (any_moment (quiet_too old s has_begun.quiet t).each) (any_moment (throughout_told (λ (u : Unit {0}). t) (says_line spoke)))),
             ));
+        opening = λ t some opened opens none. opening_at spoke t opened;
+        some = λ there. none_left old.count;
         kept = λ t begins ahead rest. started_kept spoke t begins ahead (map (λ (a : Asked). a.line) rest) rest refl;
         ended = λ t is begins. absurd (cc is);
         refused = never_refused old new (said_of old new) OutFault (λ r e. cc e) has_begun.unrefused;

@@ -1,12 +1,14 @@
 -- What is known of a run on its way, for each way out of it.
-use Rattle.std.proofs.Common.{◌≡◌, ◌≢◌, inl, inr, ℕ, Bool, false, if◌then◌else◌, List, [], ◌++◌, length, take, drop, map, None, refl, sym, ◌∙◌, ap, subst, arith}
+use Rattle.nn_run.specs.Window.{text_of, commands_of}
+use Rattle.nn_host.specs.Runs.{Throughout}
+use Rattle.std.proofs.Common.{◌≡◌, ◌≢◌, inl, inr, ℕ, Bool, false, if◌then◌else◌, List, [], ◌++◌, length, take, drop, map, None, refl, sym, ◌∙◌, ap, subst, arith, ◌≤◌}
 use Rattle.std.proofs.Math.Seq.{drop-append_seam}
-use Rattle.std.proofs.lemmas.List.{take_all}
+use Rattle.std.proofs.lemmas.List.{take_all, length-append, length-drop}
 use Rattle.nn_base.specs.DirSets.{has}
 use Rattle.nn_base.specs.Paths.{Bytes}
 use Rattle.nn_host.specs.Moments.{State}
 use Rattle.nn_host.specs.Calls.{next_count}
-use Rattle.nn_host.proofs.RunsLemmas.{out_whole_trans, silent_whole}
+use Rattle.nn_host.proofs.RunsLemmas.{out_whole_trans, silent_whole, throughout_trans, throughout_weaker}
 use Rattle.nn_tree.specs.Namespace.{Namespace}
 use Rattle.nn_pick.specs.declared.intent.Intent.TheVariants.{Start}
 use Rattle.nn_pick.specs.declared.refusal.Refusal.{Refusal}
@@ -15,14 +17,14 @@ use Rattle.nn_pick.specs.Opening.{Opening, Opens}
 use Rattle.nn_journal.specs.declared.journal.JournalSet.{JournalSet}
 use Rattle.nn_journal.specs.Among.{EachCounted}
 use Rattle.nn_run.specs.Running.{Asked}
-use Rattle.nn_run.specs.Course.{dirs_of, answers_of, course_of, RunKept}
+use Rattle.nn_run.specs.Course.{dirs_of, answers_of, course_of, RunKept, started_line, first_of}
 use Rattle.nn_whole.specs.Counted.{HasCounts, StepCounts}
 use Rattle.nn_core.specs.Events.{GoesOut}
 use Rattle.nn_server.specs.declared.status.Status.{Status}
 use Rattle.nn_server.specs.Came.{Speaks, is_out_fault}
 use Rattle.nn_serve.specs.declared.ending.RunEnd.{RunEnd}
 use Rattle.nn_serve.specs.declared.ending.RunEnd.TheVariants.{Refused, NoneLeft}
-use Rattle.nn_serve.specs.Ran.{asked_at, BeginsSoundly, CausedBy, EndsUnopened}
+use Rattle.nn_serve.specs.Ran.{asked_at, BeginsSoundly, CausedBy, EndsUnopened, IsOpeningAt}
 use Rattle.nn_serve.specs.Serving.{IsServing}
 
 -- ---- what was said since
@@ -79,3 +81,15 @@ module _ {told : Type 0} (at count : ℕ) (ns : Namespace) (time : ℕ) (journal
 
   pub kept_here : (t : told) (begins : BeginsSoundly old) (ahead : ℕ → Bool) (rest : List Asked) → RunKept (Unit {0}) (course_of (asked_at at) old.count begins.sound.opens.version.ctime begins.sound.opened (seen ++ rest) ahead) old s
   kept_here t begins ahead rest = serving.kept t begins ahead (map (λ (a : Asked). a.line) rest) rest refl
+
+-- ---- while it was said that the run has started
+
+-- all answers begin with that
+pub first_long : (at count ctime : ℕ) (opened : Opening) (seen : List Asked) → length (started_line opened.last) ≤ length (answers_of (asked_at at) count ctime opened seen)
+first_long at count ctime opened seen = omega (arith, length-append (started_line opened.last) (text_of (commands_of count (first_of (asked_at at) opened) seen)))
+
+-- so whatever is said behind answers, it isn't said then
+pub opening_on : (last : ℕ) (old s new : State) (text : Bytes) → s.now.said ≡ old.now.said ++ text → length (started_line last) ≤ length text → Throughout (Unit {0}) old s (IsOpeningAt last old)
+    → Throughout (Unit {0}) s new (λ m. (more : Bytes) × (m.said ≡ s.now.said ++ more)) → Throughout (Unit {0}) old new (IsOpeningAt last old)
+opening_on last old s new text said long first later = throughout_trans first (throughout_weaker later (λ u m is some few i.
+    absurd (omega (arith, few, long, length-drop (length old.now.said) m.said, ap length is.1, length-append s.now.said is.0, ap length said, length-append old.now.said text))))

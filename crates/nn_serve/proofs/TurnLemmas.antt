@@ -1,10 +1,11 @@
 -- One line of a run, and then the next.
-use Rattle.std.proofs.Common.{◌≡◌, inl, inr, ℕ, ◌+◌, ◌*◌, ◌≤◌, Bool, true, List, [], ◌∷◌, ◌++◌, take, Ok, Err, None, Option, Result, refl, sym, ◌∙◌, ap, subst, arith, append_assoc}
+use Rattle.std.proofs.lemmas.List.Elements.{All-append, All-cons, All-nil}
+use Rattle.std.proofs.Common.{◌≡◌, inl, inr, ℕ, ◌+◌, ◌*◌, ◌≤◌, Bool, true, List, [], ◌∷◌, ◌++◌, take, Ok, Err, None, Option, Result, refl, sym, ◌∙◌, ap, subst, arith, append_assoc, All}
 use Rattle.std.proofs.lemmas.Bool.{cases_Bool}
 use Rattle.nn_base.specs.DirSets.{has, count_of}
 use Rattle.nn_base.specs.Paths.{Bytes}
 use Rattle.nn_host.specs.Moments.{State}
-use Rattle.nn_host.proofs.RunsLemmas.{throughout_told}
+use Rattle.nn_host.proofs.RunsLemmas.{throughout_told, throughout_weaker}
 use Rattle.nn_tree.specs.Namespace.{Namespace}
 use Rattle.nn_pick.specs.declared.intent.Intent.TheVariants.{Start}
 use Rattle.nn_pick.specs.Opening.{Opening, Opens}
@@ -14,7 +15,7 @@ use Rattle.nn_script.specs.Lines.{has_no_answer}
 use Rattle.nn_script.specs.Reading.{reading_of}
 use Rattle.nn_journal.specs.declared.journal.JournalSet.{JournalSet}
 use Rattle.nn_run.specs.Running.{Running, Sight, Asked, reply_read, reply_at, after_asked}
-use Rattle.nn_run.specs.Course.{dirs_of, first_of, course_of, RunKept}
+use Rattle.nn_run.specs.Course.{dirs_of, first_of, course_of, RunKept, answers_of}
 use Rattle.nn_run.proofs.LineLemmas.{read_some}
 use Rattle.nn_run.specs.Loop.{KeptSoFar}
 use Rattle.nn_run.specs.Steps.{StepKept, HasAnswered}
@@ -25,10 +26,10 @@ use Rattle.nn_whole.proofs.ServedLemmas.{next_is_said, silent_is_said}
 use Rattle.nn_core.specs.declared.event.End.{End}
 use Rattle.nn_core.specs.Events.{asked_at as seen_at, running, HasStepped}
 use Rattle.nn_core.specs.Standing.{HasIds}
-use Rattle.nn_serve.specs.Ran.{asked_at, BeginsSoundly}
+use Rattle.nn_serve.specs.Ran.{asked_at, IsLeftAt, BeginsSoundly}
 use Rattle.nn_serve.specs.Serving.{IsServing, HasRoom}
 use Rattle.nn_serve.specs.Turns.{TurnsTo}
-use Rattle.nn_serve.proofs.SinceLemmas.{goes_on, step_counts}
+use Rattle.nn_serve.proofs.SinceLemmas.{goes_on, step_counts, first_long, opening_on}
 use Rattle.nn_serve.proofs.OutLemmas.{out_stepped}
 
 -- ---- ids
@@ -41,6 +42,10 @@ room_after : {told : Type 0} {old : State} {journal after : JournalSet} (more : 
 room_after more room last = record { ids = omega (arith, room.ids, last); few = λ tells begins. omega (arith, room.few tells begins, last) }
 
 -- ---- a line that was answered
+
+-- a directory was live at it too
+one_more : (count : ℕ) (seen : List Asked) (next : Asked) → All (IsLeftAt count) seen → IsLeftAt count next → All (IsLeftAt count) (seen ++ next ∷ [])
+one_more count seen next all one = All-append (IsLeftAt count) seen (next ∷ []) all (All-cons (IsLeftAt count) next [] one (All-nil (IsLeftAt count)))
 
 module _ {told : Type 0} (at count : ℕ) (ns ns_after : Namespace) (time time_after : ℕ) (journal after : JournalSet) (seen : List Asked) (old s new : State) (serving : IsServing told at count ns time journal seen old s)
     (reading : Result (Option ScriptCommand) Syntax) (line : Bytes) (reads : reading_of line ≡ reading) (v : Unit {0}) (stepped : HasStepped told reading count ns ns_after time time_after journal after s new (Ok v)) where
@@ -89,6 +94,13 @@ module _ {told : Type 0} (at count : ℕ) (ns ns_after : Namespace) (time time_a
       listed = serving.listed;
       ready = stepped.ready;
       sees = next_is_seen (has journal.live) (has after.live) seen next old s new serving.sees (step_counts journal after s new stepped.live.counted) (λ i. refl) (λ i. refl);
+      some = λ there. stepped.live.some (inl (serving.some there));
+      left = λ there. one_more old.count seen next (serving.left there)
+          (let live = stepped.live.some (inl (serving.some there)) in (live.0, (let below = stepped.ready.below live.0 live.1 in omega (arith, below, serving.listed)), live.1));
+      opening = λ tells opened opens none.
+          let come = (serving.said tells opened opens none).0 in
+          opening_on opened.last old s new (answers_of (asked_at at) old.count opens.version.ctime opened seen) come.said (first_long at old.count opens.version.ctime opened seen) (serving.opening tells opened opens none)
+          (throughout_weaker (spoken tells opened opens none) (λ u m is. (take is.0.0 (reply_at old.count (after_asked old.count (first_of (asked_at at) opened) seen) next).text, is.0.1)));
       out = goes_on old s new serving.out stepped.out;
       unrefused = serving.unrefused;
       grew = λ tells.
@@ -117,6 +129,10 @@ silent at count ns time journal seen old s serving line reads more room = (
     listed = serving.listed;
     ready = serving.ready;
     sees = next_is_seen (has journal.live) (has journal.live) seen (seen_at line journal.live s) old s s serving.sees (λ i. inl (refl, refl)) (λ i. refl) (λ i. refl);
+    some = serving.some;
+    left = λ there. one_more old.count seen (seen_at line journal.live s) (serving.left there)
+        (let live = serving.some there in (live.0, (let below = serving.ready.below live.0 live.1 in omega (arith, below, serving.listed)), live.1));
+    opening = serving.opening;
     out = serving.out;
     unrefused = serving.unrefused;
     grew = serving.grew;

@@ -1,21 +1,22 @@
 -- What a run over directories did: what it said, kept and left, which directories were seen to be live, and which counts rose.
-use Rattle.std.specs.Prelude.{◌≡◌, ◌⊎◌, ℕ, ◌+◌, ◌-◌, ◌^◌, ◌<◌, ◌≤◌, Bool, false, None, List, [], ◌++◌, length, take, map}
+use Rattle.std.specs.Prelude.{◌≡◌, ◌≢◌, ◌⊎◌, ℕ, ◌+◌, ◌-◌, ◌^◌, ◌<◌, ◌≤◌, Bool, true, false, None, List, [], ◌++◌, length, take, map, All}
 use Rattle.nn_base.specs.FileText.{IsInRange}
 use Rattle.nn_base.specs.Limits.{most_script}
 use Rattle.nn_base.specs.Paths.{Bytes}
 use Rattle.nn_base.specs.declared.ids.DirNo.{DirNo}
 use Rattle.nn_base.specs.declared.sub.Sub.TheVariants.{Current}
 use Rattle.nn_base.specs.declared.file_name.FileName.TheVariants.{InProgress}
-use Rattle.nn_host.specs.Moments.{State, IsLawful, faults_at}
+use Rattle.nn_host.specs.Moments.{Moment, State, IsLawful, faults_at}
 use Rattle.nn_host.specs.Calls.{next_count}
-use Rattle.nn_host.specs.Runs.{SameCounts}
+use Rattle.nn_host.specs.Runs.{Throughout, SameCounts}
 use Rattle.nn_pick.specs.declared.intent.Intent.TheVariants.{Start}
 use Rattle.nn_pick.specs.declared.refusal.Refusal.{Refusal}
 use Rattle.nn_pick.specs.Refusing.{Refuses, spent_from}
 use Rattle.nn_pick.specs.Opening.{Opening, Opens, AreSound}
 use Rattle.nn_reader.specs.Script.{ScriptRead}
 use Rattle.nn_run.specs.Running.{Asked, SeeLive}
-use Rattle.nn_run.specs.Course.{RunAsked, dirs_of, answers_of, course_of, RunKept}
+use Rattle.nn_run.specs.Window.{said_since}
+use Rattle.nn_run.specs.Course.{started_line, RunAsked, dirs_of, answers_of, course_of, RunKept}
 use Rattle.nn_whole.specs.Ended.{OpensToLast}
 use Rattle.nn_whole.specs.Counted.{SeenWithin}
 use Rattle.nn_whole.specs.Served.{SeenTruly}
@@ -42,6 +43,20 @@ RunSays answers seen reached SourceFault text = (reached ≡ length seen) × (te
 RunSays answers seen reached ScriptTooLong text = (reached ≡ length seen) × (text ≡ answers seen)
 RunSays answers seen reached Memory text = ((text ≡ []) × (seen ≡ [])) ⊎ (text ≡ answers (take reached seen))
 RunSays answers seen reached OutFault text = ((later : Bytes) × (answers seen ≡ text ++ later)) × ((seen ≡ []) ⊎ ((more : Bytes) × (text ≡ answers (take reached seen) ++ more)))
+
+-- ---- which directories are left
+
+-- at this moment, if a part of it was said that the run has started, no count has risen since
+abbrev pub IsOpeningAt : ℕ → State → Moment → Type 0
+IsOpeningAt last old m = 0 < length (said_since old m) → length (said_since old m) < length (started_line last) → (i : ℕ) → (m.dirs i).faults ≡ faults_at old i
+
+-- a listed directory was live at this line
+abbrev pub IsLeftAt : ℕ → Asked → Type 0
+IsLeftAt count asked = (i : ℕ) × (i < count) × (asked.sight.live i ≡ true)
+
+-- at each of these lines one was, where any is listed
+abbrev pub SomeLeft : ℕ → List Asked → Type 0
+SomeLeft count seen = 0 < count → All (IsLeftAt count) seen
 
 -- ---- how it begins
 
@@ -86,6 +101,8 @@ pub record RunRan (told_host told_source : Type 0) (at : ℕ) (script left : Byt
   -- what was said, where the directories open and nothing is saved; and that the directories were seen as their counts stood when each answer was said
   pub said : told_host → (opened : Opening) (opens : Opens (dirs_of old) Start opened) → opened.book.saved ≡ None → RunSays (answers_of (asked_at at) old.count opens.version.ctime opened) seen reached end text
       × SeenTruly (answers_of (asked_at at) old.count opens.version.ctime opened) (take reached seen) old new
+  -- no call on a directory had failed when it was said that the run has started, so a count that rose did so since then
+  pub opening : told_host → text ≢ [] → (opened : Opening) → Opens (dirs_of old) Start opened → opened.book.saved ≡ None → Throughout (Unit {0}) old new (IsOpeningAt opened.last old)
   -- at every moment every choice with a directory of the run opens into its window, whatever lines come behind those that were read
   pub kept : told_host → (begins : BeginsSoundly old) (ahead : ℕ → Bool) (rest : List Asked) → RunKept (Unit {0}) (course_of (asked_at at) old.count begins.sound.opens.version.ctime begins.sound.opened (seen ++ rest) ahead) old new
   -- and what done work leaves
@@ -95,6 +112,8 @@ pub record RunRan (told_host told_source : Type 0) (at : ℕ) (script left : Byt
   -- for every host: which counts rose, and that live are just those whose count hasn't
   pub cause : CausedBy old new end
   pub live : SeeLive old.count (λ i. faults_at old i) (take reached seen) × SeenWithin (take reached seen) old new
+  -- and that no line is answered once none is left
+  pub some : SomeLeft old.count (take reached seen)
   -- where the directories open, the script is short enough and neither the source nor the output failed, nothing else ends it while one directory has no failure, but want of memory or a failure before it started
   pub complete : told_host → told_source → (opened : Opening) → Opens (dirs_of old) Start opened → length script ≤ most_script → before < 2 ^ 64 - 1 → after ≡ before → old.now.out_faults < 2 ^ 64 - 1 → new.now.out_faults ≡ old.now.out_faults
       → (i : ℕ) → i < old.count → faults_at old i < 2 ^ 64 - 1 → faults_at new i ≡ faults_at old i → (end ≡ Ended) ⊎ ((end ≡ Memory) ⊎ ((j : DirNo) × (end ≡ HostFault j)))

@@ -1,9 +1,9 @@
 -- A run on its way: how it has begun, what holds between two of its lines, and what is known of its end but for its script.
-use Rattle.std.specs.Prelude.{◌≡◌, ℕ, ◌+◌, ◌*◌, ◌^◌, ◌<◌, ◌≤◌, Bool, true, None, List, [], ◌++◌, length, take}
+use Rattle.std.specs.Prelude.{◌≡◌, ◌≢◌, ℕ, ◌+◌, ◌*◌, ◌^◌, ◌<◌, ◌≤◌, Bool, true, None, List, [], ◌++◌, length, take}
 use Rattle.nn_base.specs.DirSets.{has, count_of}
 use Rattle.nn_base.specs.Paths.{Bytes}
 use Rattle.nn_host.specs.Moments.{State, faults_at}
-use Rattle.nn_host.specs.Runs.{Unspoken, SameCounts}
+use Rattle.nn_host.specs.Runs.{Throughout, Unspoken, SameCounts}
 use Rattle.nn_tree.specs.Namespace.{Namespace}
 use Rattle.nn_pick.specs.declared.intent.Intent.TheVariants.{Start}
 use Rattle.nn_pick.specs.declared.refusal.Refusal.{Refusal}
@@ -17,12 +17,12 @@ use Rattle.nn_whole.specs.Counted.{HasSeen, SeenWithin}
 use Rattle.nn_whole.specs.Served.{HasSaid, SeenTruly}
 use Rattle.nn_core.specs.Ready.{IsReady}
 use Rattle.nn_core.specs.Standing.{unsaved, Stands}
-use Rattle.nn_core.specs.Events.{running, GoesOut}
+use Rattle.nn_core.specs.Events.{running, HasLive, GoesOut}
 use Rattle.nn_server.specs.Came.{Speaks}
 use Rattle.nn_serve.specs.declared.ending.RunEnd.{RunEnd}
 use Rattle.nn_serve.specs.declared.ending.RunEnd.TheVariants.{Ended, Refused}
 use Rattle.nn_serve.specs.Ended.{run_status}
-use Rattle.nn_serve.specs.Ran.{asked_at, RunSays, BeginsSoundly, LeavesLast, CausedBy, EndsUnopened}
+use Rattle.nn_serve.specs.Ran.{asked_at, RunSays, IsOpeningAt, SomeLeft, BeginsSoundly, LeavesLast, CausedBy, EndsUnopened}
 
 -- ---- on its way
 
@@ -45,11 +45,14 @@ pub record IsServing (told : Type 0) (at count : ℕ) (ns : Namespace) (time : �
   pub listed : old.count ≡ count
   pub ready : IsReady journal count s
   pub sees : HasSeen (has journal.live) seen old s
+  pub some : 0 < old.count → HasLive journal
+  pub left : SomeLeft old.count seen
   pub out : GoesOut told old s
   pub unrefused : told → (refusal : Refusal) → ¬ Refuses (dirs_of old) Start refusal
   pub grew : told → (text : Bytes) × (s.now.said ≡ old.now.said ++ text)
   pub said : told → (opened : Opening) (opens : Opens (dirs_of old) Start opened) → opened.book.saved ≡ None
       → HasSaid (asked_at at) opens.version.ctime opened (has journal.live) seen old s × (running ns time ≡ after_asked old.count (first_of (asked_at at) opened) seen)
+  pub opening : told → (opened : Opening) → Opens (dirs_of old) Start opened → opened.book.saved ≡ None → Throughout (Unit {0}) old s (IsOpeningAt opened.last old)
   pub kept : told → (begins : BeginsSoundly old) (ahead : ℕ → Bool) (rest : List Bytes) → KeptSoFar (asked_at at) begins.sound.opens.version.ctime begins.sound.opened ahead seen rest old s
   pub stands : told → BeginsSoundly old → Stands journal ns s
 
@@ -68,6 +71,8 @@ pub record EndsSo (told : Type 0) (at : ℕ) (old new : State) (seen : List Aske
   pub most : length seen ≤ reached + 1
   pub said : told → (opened : Opening) (opens : Opens (dirs_of old) Start opened) → opened.book.saved ≡ None → RunSays (answers_of (asked_at at) old.count opens.version.ctime opened) seen reached end text
       × SeenTruly (answers_of (asked_at at) old.count opens.version.ctime opened) (take reached seen) old new
+  pub opening : told → text ≢ [] → (opened : Opening) → Opens (dirs_of old) Start opened → opened.book.saved ≡ None → Throughout (Unit {0}) old new (IsOpeningAt opened.last old)
+  pub some : SomeLeft old.count (take reached seen)
   pub kept : told → (begins : BeginsSoundly old) (ahead : ℕ → Bool) (rest : List Asked) → RunKept (Unit {0}) (course_of (asked_at at) old.count begins.sound.opens.version.ctime begins.sound.opened (seen ++ rest) ahead) old new
   pub ended : told → end ≡ Ended → (begins : BeginsSoundly old) → LeavesLast (asked_at at) begins.sound.opens.version.ctime begins.sound.opened seen old new
   pub refused : told → (refusal : Refusal) → (end ≡ Refused refusal → Refuses (dirs_of old) Start refusal × ((i : ℕ) → new.reads i ≡ old.reads i)) × (Refuses (dirs_of old) Start refusal → EndsUnopened refusal end × (text ≡ []))

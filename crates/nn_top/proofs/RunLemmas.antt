@@ -1,5 +1,5 @@
 -- The record of a run over directories, from its command's end to the return: the last line keeps what was kept.
-use Rattle.std.proofs.Common.{◌≡◌, inl, inr, ⊎_elim, ℕ, ◌≤◌, Bool, false, List, [], ◌∷◌, ◌++◌, take, drop, length, refl, sym, ◌∙◌, ap, subst, append_assoc, if◌then◌else◌, arith}
+use Rattle.std.proofs.Common.{◌≡◌, ◌≢◌, inl, inr, ⊎_elim, ℕ, ◌≤◌, Bool, false, List, [], ◌∷◌, ◌++◌, take, drop, length, refl, sym, ◌∙◌, ap, subst, append_assoc, if◌then◌else◌, arith}
 use Rattle.std.specs.List.{Contains}
 use Rattle.std.proofs.lemmas.Bool.{false≢true}
 use Rattle.std.proofs.lemmas.List.{append-nil, take-append-drop, take_all}
@@ -28,7 +28,8 @@ use Rattle.nn_server.specs.Came.{Speaks, CameTo}
 use Rattle.nn_serve.specs.declared.ending.RunEnd.{RunEnd}
 use Rattle.nn_serve.specs.declared.ending.RunEnd.TheVariants.{Ended, Refused, HostFault, NoneLeft, SourceFault, ScriptTooLong, Memory, OutFault}
 use Rattle.nn_serve.specs.Ended.{run_status}
-use Rattle.nn_serve.specs.Ran.{RunSays, RunRan, LeavesLast, CausedBy, BeginsSoundly, asked_at}
+use Rattle.nn_serve.specs.Ran.{IsOpeningAt, RunSays, RunRan, LeavesLast, CausedBy, BeginsSoundly, asked_at}
+use Rattle.nn_serve.proofs.SinceLemmas.{first_long, opening_on}
 use Rattle.nn_top.specs.Lines.{last_line}
 use Rattle.nn_top.specs.Closes.{is_made, IsLast, ClosesWhole, ClosesCut, Closes, Closing}
 use Rattle.nn_top.specs.Runs.{RunDid}
@@ -152,6 +153,26 @@ module _ (asked : RunAsked) (ctime : ℕ) (opened : Opening) (seen : List Asked)
   seen_on text Memory tells said (inr is) closing truly = seen_more text closing.last said is (throughout_told (λ u. tells) closing.fronts) truly
   seen_on text OutFault tells said says closing truly = subst (λ (s : State). SeenTruly answers (take reached seen) a s) (sym (silent_same closing)) truly
 
+-- ---- while it was said that the run has started
+
+opening_more : (at ctime : ℕ) (opened : Opening) (done : List Asked) (a b c : State) (text last : Bytes) → b.now.said ≡ a.now.said ++ text → text ≡ answers_of (asked_at at) a.count ctime opened done → SaysFronts (Unit {0}) b c last
+    → Throughout (Unit {0}) a b (IsOpeningAt opened.last a) → Throughout (Unit {0}) a c (IsOpeningAt opened.last a)
+opening_more at ctime opened done a b c text last said is fronts first =
+    opening_on opened.last a b c text said (omega (arith, ap length is, first_long at a.count ctime opened done)) first (throughout_weaker fronts (λ u m is. (take is.1 last, is.2)))
+
+opening_after : {told : Type 0} {result : Status} (at ctime : ℕ) (opened : Opening) (seen : List Asked) (reached : ℕ) (a b c : State) (text : Bytes) (end : RunEnd) → told → b.now.said ≡ a.now.said ++ text
+    → RunSays (answers_of (asked_at at) a.count ctime opened) seen reached end text → Closing told b c (run_status end) result → text ≢ []
+    → Throughout (Unit {0}) a b (IsOpeningAt opened.last a) → Throughout (Unit {0}) a c (IsOpeningAt opened.last a)
+opening_after at ctime opened seen reached a b c text Ended tells said says closing some first = opening_more at ctime opened seen a b c text (last_line closing.last) said says.1 (throughout_told (λ u. tells) closing.fronts) first
+opening_after at ctime opened seen reached a b c text (Refused refusal) tells said says closing some first = absurd (some says.0)
+opening_after at ctime opened seen reached a b c text (HostFault i) tells said says closing some first = absurd (some says.0)
+opening_after at ctime opened seen reached a b c text NoneLeft tells said says closing some first = opening_more at ctime opened (take reached seen) a b c text (last_line closing.last) said says (throughout_told (λ u. tells) closing.fronts) first
+opening_after at ctime opened seen reached a b c text SourceFault tells said says closing some first = opening_more at ctime opened seen a b c text (last_line closing.last) said says.1 (throughout_told (λ u. tells) closing.fronts) first
+opening_after at ctime opened seen reached a b c text ScriptTooLong tells said says closing some first = opening_more at ctime opened seen a b c text (last_line closing.last) said says.1 (throughout_told (λ u. tells) closing.fronts) first
+opening_after at ctime opened seen reached a b c text Memory tells said (inl none) closing some first = absurd (some none.0)
+opening_after at ctime opened seen reached a b c text Memory tells said (inr is) closing some first = opening_more at ctime opened (take reached seen) a b c text (last_line closing.last) said is (throughout_told (λ u. tells) closing.fronts) first
+opening_after at ctime opened seen reached a b c text OutFault tells said says closing some first = subst (λ (s : State). Throughout (Unit {0}) a s (IsOpeningAt opened.last a)) (sym (silent_same closing)) first
+
 -- ---- counts and reads
 
 caused_on : (a b c : State) (end : RunEnd) → ((j : ℕ) → faults_at c j ≡ faults_at b j) → CausedBy a b end → CausedBy a c end
@@ -200,6 +221,10 @@ module _ {told told_source : Type 0} {at : ℕ} {script left : Bytes} {before af
     said = λ tells opened opens unsaved.
         let says = ran.said tells opened opens unsaved in
         (says.0, seen_on (asked_at at) opens.version.ctime opened ran.seen ran.reached a b c text end tells (speaks.said tells) says.0 closing says.1);
+    opening = λ tells some opened opens unsaved.
+        let says = ran.said tells opened opens unsaved in
+        opening_after at opens.version.ctime opened ran.seen ran.reached a b c text end tells (speaks.said tells) says.0 closing some (ran.opening tells some opened opens unsaved);
+    some = ran.some;
     kept = λ tells begins ahead rest.
         let says = ran.said tells begins.sound.opened begins.sound.opens begins.unsaved in
         kept_on (asked_at at) begins.sound.opens.version.ctime begins.sound.opened ran.seen ran.reached a b c ahead rest text end tells (speaks.said tells) says.0 closing (ran.kept tells begins ahead rest);
