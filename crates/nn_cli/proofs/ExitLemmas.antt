@@ -49,6 +49,7 @@ counts_alone left faults before after old new (Run at dirs) status did = record 
       ended = ran.ended;
       refused = ran.refused;
       opening = ran.opening;
+      started = ran.started;
       some = ran.some;
       cause = ran.cause;
       live = ran.live;

@@ -27,9 +27,9 @@ use Rattle.nn_core.specs.Events.{HasEnded}
 use Rattle.nn_core.specs.Standing.{unsaved, HasIds}
 use Rattle.nn_serve.specs.declared.ending.RunEnd.TheVariants.{Ended, NoneLeft}
 use Rattle.nn_serve.specs.Ended.{run_status}
-use Rattle.nn_serve.specs.Ran.{asked_at, BeginsSoundly, LeavesLast, IsOpeningAt, SomeLeft}
+use Rattle.nn_serve.specs.Ran.{asked_at, BeginsSoundly, LeavesLast, AsItStarts, NoneFailed, StartsAll, SomeLeft}
 use Rattle.nn_serve.specs.Serving.{IsServing, EndsSo}
-use Rattle.nn_serve.proofs.SinceLemmas.{said_of, speaks_whole, goes_on, never_refused, all_of, step_counts, none_live, said_here, answers_here, kept_here, first_long, opening_on}
+use Rattle.nn_serve.proofs.SinceLemmas.{said_of, speaks_whole, goes_on, never_refused, all_of, step_counts, none_live, said_here, answers_here, kept_here, first_long, opening_on, starts_on}
 
 module _ {told : Type 0} (at count : ℕ) (ns : Namespace) (time : ℕ) (journal : JournalSet) (seen : List Asked) (old s : State) (serving : IsServing told at count ns time journal seen old s) where
   -- what is known on its way
@@ -67,10 +67,18 @@ module _ {told : Type 0} (at count : ℕ) (ns : Namespace) (time : ℕ) (journal
         let rise = throughout_told (λ (u : Unit {0}). t) (throughout_weaker ended.went.left (λ t m is. is.grown)) in
         ending_is_kept (asked_at at) begins.sound.opens.version.ctime begins.sound.opened ahead (has journal.live) (λ i. true) seen rest old s new (omega arith) (serves t begins ahead) quiet rise whole
 
-    ended_opening : {result : Result (Unit {0}) E} → HasEnded told count ns journal after s new result → (t : told) (opened : Opening) (opens : Opens (dirs_of old) Start opened) → opened.book.saved ≡ None → Throughout (Unit {0}) old new (IsOpeningAt opened.last old)
+    ended_opening : {result : Result (Unit {0}) E} → HasEnded told count ns journal after s new result → (t : told) (opened : Opening) (opens : Opens (dirs_of old) Start opened) → opened.book.saved ≡ None → Throughout (Unit {0}) old new (AsItStarts opened.last old (NoneFailed old))
     ended_opening ended t opened opens none =
         let come = (serving.said t opened opens none).0 in
-        opening_on opened.last old s new (answers_of (asked_at at) old.count opens.version.ctime opened seen) come.said (first_long at old.count opens.version.ctime opened seen) (serving.opening t opened opens none)
+        opening_on (NoneFailed old) opened.last old s new (answers_of (asked_at at) old.count opens.version.ctime opened seen) come.said (first_long at old.count opens.version.ctime opened seen) (serving.opening t opened opens none)
+        (throughout_weaker (throughout_told (λ (u : Unit {0}). t) ended.went.quiet.each) (λ u m out. ([], out.said ∙ sym (append-nil s.now.said))))
+
+    ended_started : {result : Result (Unit {0}) E} → HasEnded told count ns journal after s new result → (t : told) (begins : BeginsSoundly old) → StartsAll old new begins.sound.opened.last begins.sound.opened.book.ns
+    ended_started ended t begins =
+        let opened = begins.sound.opened in
+        let ctime = begins.sound.opens.version.ctime in
+        let come = (serving.said t opened begins.sound.opens begins.unsaved).0 in
+        starts_on opened.last opened.book.ns old s new (answers_of (asked_at at) old.count ctime opened seen) come.said (first_long at old.count ctime opened seen) (serving.started t begins)
         (throughout_weaker (throughout_told (λ (u : Unit {0}). t) ended.went.quiet.each) (λ u m out. ([], out.said ∙ sym (append-nil s.now.said))))
 
     ended_said : {result : Result (Unit {0}) E} → HasEnded told count ns journal after s new result → told → new.now.said ≡ old.now.said ++ said_of old s
@@ -128,6 +136,7 @@ module _ {told : Type 0} (at count : ℕ) (ns : Namespace) (time : ℕ) (journal
       most = omega arith;
       said = λ t opened opens none. ((refl, here_answers t opened opens none), ended_seen ended t opened opens none);
       opening = λ t some opened opens none. ended_opening ended t opened opens none;
+      started = λ t some begins. ended_started ended t begins;
       some = subst (SomeLeft old.count) (sym (all_of seen)) serving.left;
       kept = ended_kept ended;
       ended = λ t is begins. leaves_last ended (lawful t) t begins;
@@ -144,6 +153,7 @@ module _ {told : Type 0} (at count : ℕ) (ns : Namespace) (time : ℕ) (journal
       most = omega arith;
       said = λ t opened opens none. (here_answers t opened opens none ∙ ap (answers_of (asked_at at) old.count opens.version.ctime opened) (sym (all_of seen)), ended_seen ended t opened opens none);
       opening = λ t some opened opens none. ended_opening ended t opened opens none;
+      started = λ t some begins. ended_started ended t begins;
       some = subst (SomeLeft old.count) (sym (all_of seen)) serving.left;
       kept = ended_kept ended;
       ended = λ t is begins. absurd (cc is);

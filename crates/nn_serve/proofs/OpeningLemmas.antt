@@ -22,7 +22,7 @@ use Rattle.nn_pick.specs.Opening.{Book, Opening}
 use Rattle.nn_pick.proofs.LawLemmas.{one_refuses}
 use Rattle.nn_choose.specs.Picking.{IsRefusedTruly}
 use Rattle.nn_start.specs.Entry.{ReadsWhereRefused}
-use Rattle.nn_begin.specs.Begun.{IsCountedIn}
+use Rattle.nn_begin.specs.Begun.{IsCountedIn, IsStarted}
 use Rattle.nn_begin.specs.Started.{StartsKept}
 use Rattle.nn_run.specs.Running.{Asked, SeeLive}
 use Rattle.nn_run.specs.Window.{text_of}
@@ -41,7 +41,7 @@ use Rattle.nn_server.specs.Came.{is_out_fault}
 use Rattle.nn_serve.specs.declared.ending.RunEnd.{RunEnd}
 use Rattle.nn_serve.specs.declared.ending.RunEnd.TheVariants.{Ended, Refused, HostFault, Memory, OutFault}
 use Rattle.nn_serve.specs.Ended.{run_status, unstarted}
-use Rattle.nn_serve.specs.Ran.{asked_at, RunSays, BeginsSoundly, CausedBy, EndsUnopened, IsOpeningAt, IsLeftAt}
+use Rattle.nn_serve.specs.Ran.{asked_at, RunSays, BeginsSoundly, CausedBy, EndsUnopened, AsItStarts, NoneFailed, StartsAll, IsLeftAt}
 use Rattle.nn_serve.specs.Serving.{HasBegun, IsServing, EndsSo}
 use Rattle.nn_serve.proofs.SinceLemmas.{said_of, since_is, since_all, speaks_whole, never_refused}
 use Rattle.nn_serve.proofs.StartLemmas.{quiet_too, start_kept}
@@ -83,6 +83,7 @@ unstarted_so at old s end whole goes quiet kept says refused cause = record {
   most = omega arith;
   said = λ t opened opens none. (says (answers_of (asked_at at) old.count opens.version.ctime opened), none_seen (answers_of (asked_at at) old.count opens.version.ctime opened) old s (quiet_too old s quiet t).each);
   opening = λ t some. absurd (some refl);
+  started = λ t some. absurd (some refl);
   some = λ there. none_left old.count;
   kept = λ t begins ahead rest. kept t begins ahead (map (λ (a : Asked). a.line) rest) rest refl;
   ended = λ t is begins. absurd (goes is);
@@ -157,10 +158,24 @@ module _ {told : Type 0} (at count : ℕ) (ns : Namespace) (journal : JournalSet
   all_live i below = has_begun.all i (subst (λ k. i < k) has_begun.listed below)
 
   -- no count rose by then
-  opening_at : {T E : Type 0} {result : Result T E} → Spoke told bytes s new result → told → (opened : Opening) → Throughout (Unit {0}) old new (IsOpeningAt opened.last old)
+  opening_at : {T E : Type 0} {result : Result T E} → Spoke told bytes s new result → told → (opened : Opening) → Throughout (Unit {0}) old new (AsItStarts opened.last old (NoneFailed old))
   opening_at spoke t opened = throughout_trans
       (throughout_weaker (quiet_too old s has_begun.quiet t).each (λ u m out some few i. absurd (omega (arith, some, length-drop (length old.now.said) m.said, ap length out.said))))
       (throughout_weaker (throughout_told (λ (u : Unit {0}). t) (says_line spoke)) (λ u m is some few i. ap (λ (dirs : ℕ → Dir). (dirs i).faults) is.0 ∙ has_begun.counts.faults i))
+
+  -- and each directory stood so
+  starting_at : {T E : Type 0} {result : Result T E} → Spoke told bytes s new result → told → (begins : BeginsSoundly old) → StartsAll old new begins.sound.opened.last begins.sound.opened.book.ns
+  starting_at spoke t begins =
+      let is = has_begun.opens t begins.sound.opened begins.sound.opens begins.unsaved in
+      let it = has_begun.started t begins in
+      subst (λ n. StartsAll old new n begins.sound.opened.book.ns) (sym is.1) (record {
+        version = it.0;
+        list = it.1;
+        stands = it.2;
+        each = throughout_trans
+            (throughout_weaker (quiet_too old s has_begun.quiet t).each (λ u m out some few i below. absurd (omega (arith, some, length-drop (length old.now.said) m.said, ap length out.said))))
+            (throughout_weaker (throughout_told (λ (u : Unit {0}). t) (says_line spoke)) (λ u m is some few i below. subst (λ (dirs : ℕ → Dir). IsStarted it.0 it.1 last (dirs i).disk) (sym is.0) (it.3 i below)));
+      })
 
   pub said_so : {T E : Type 0} (done : T) → Spoke {T = T} {E = E} told bytes s new (Ok done) → IsServing told at count ns at journal [] old new
   said_so {T} {E} done spoke = record {
@@ -170,6 +185,7 @@ module _ {told : Type 0} (at count : ℕ) (ns : Namespace) (journal : JournalSet
     some = λ there. (0, all_live 0 there);
     left = λ there. none_left old.count;
     opening = λ t opened opens none. opening_at spoke t opened;
+    started = starting_at spoke;
     out = (out_whole_trans (out_whole_unspoken has_begun.quiet) (out_spoke spoke), spoke.counted_ok ∙ has_begun.quiet.now.out_faults);
     grew = λ t. (bytes, (spoke.ok t).said ∙ ap (λ x. x ++ bytes) has_begun.quiet.now.said);
     unrefused = has_begun.unrefused;
@@ -204,6 +220,7 @@ module _ {told : Type 0} (at count : ℕ) (ns : Namespace) (journal : JournalSet
                   (throughout_trans (any_moment (quiet_too old s has_begun.quiet t).each) (any_moment (throughout_told (λ (u : Unit {0}). t) (says_line spoke)))),
             ));
         opening = λ t some opened opens none. opening_at spoke t opened;
+        started = λ t some begins. starting_at spoke t begins;
         some = λ there. none_left old.count;
         kept = λ t begins ahead rest. started_kept spoke t begins ahead (map (λ (a : Asked). a.line) rest) rest refl;
         ended = λ t is begins. absurd (cc is);

@@ -33,9 +33,9 @@ use Rattle.nn_server.specs.Came.{Speaks, is_out_fault}
 use Rattle.nn_serve.specs.declared.ending.RunEnd.{RunEnd}
 use Rattle.nn_serve.specs.declared.ending.RunEnd.TheVariants.{Ended, Refused, NoneLeft, SourceFault, ScriptTooLong, Memory, OutFault}
 use Rattle.nn_serve.specs.Ended.{run_status, run_end}
-use Rattle.nn_serve.specs.Ran.{asked_at, RunSays, BeginsSoundly, CausedBy, SomeLeft}
+use Rattle.nn_serve.specs.Ran.{asked_at, RunSays, BeginsSoundly, CausedBy, SomeLeft, NoneFailed}
 use Rattle.nn_serve.specs.Serving.{IsServing, EndsSo}
-use Rattle.nn_serve.proofs.SinceLemmas.{said_of, since_is, since_all, speaks_whole, goes_on, never_refused, all_of, step_counts, none_live, said_here, answers_here, kept_here, first_long, opening_on}
+use Rattle.nn_serve.proofs.SinceLemmas.{said_of, since_is, since_all, speaks_whole, goes_on, never_refused, all_of, step_counts, none_live, said_here, answers_here, kept_here, first_long, opening_on, starts_on}
 
 module _ {told : Type 0} (at count : ℕ) (ns : Namespace) (time : ℕ) (journal : JournalSet) (seen : List Asked) (old s : State) (serving : IsServing told at count ns time journal seen old s) where
   -- what is known on its way
@@ -63,6 +63,7 @@ module _ {told : Type 0} (at count : ℕ) (ns : Namespace) (time : ℕ) (journal
       subst (λ l. SeenTruly (answers_of (asked_at at) old.count opens.version.ctime opened) l old s) (sym (all_of seen)) (serving.said t opened opens none).0.seen,
     );
     opening = λ t some opened opens none. serving.opening t opened opens none;
+    started = λ t some begins. serving.started t begins;
     some = subst (SomeLeft old.count) (sym (all_of seen)) serving.left;
     kept = here_kept;
     ended = λ t is begins. absurd (goes is);
@@ -102,7 +103,13 @@ module _ {told : Type 0} (at count : ℕ) (ns : Namespace) (time : ℕ) (journal
       );
       opening = λ t some opened opens none.
           let come = (serving.said t opened opens none).0 in
-          opening_on opened.last old s new (answers_of (asked_at at) old.count opens.version.ctime opened seen) come.said (first_long at old.count opens.version.ctime opened seen) (serving.opening t opened opens none)
+          opening_on (NoneFailed old) opened.last old s new (answers_of (asked_at at) old.count opens.version.ctime opened seen) come.said (first_long at old.count opens.version.ctime opened seen) (serving.opening t opened opens none)
+          (throughout_weaker (fronts t).1 (λ u m is. (take is.0 (fronts t).0, is.1)));
+      started = λ t some begins.
+          let opened = begins.sound.opened in
+          let ctime = begins.sound.opens.version.ctime in
+          let come = (serving.said t opened begins.sound.opens begins.unsaved).0 in
+          starts_on opened.last opened.book.ns old s new (answers_of (asked_at at) old.count ctime opened seen) come.said (first_long at old.count ctime opened seen) (serving.started t begins)
           (throughout_weaker (fronts t).1 (λ u m is. (take is.0 (fronts t).0, is.1)));
       some = subst (SomeLeft old.count) (sym all_but_next) serving.left;
       kept = λ t begins ahead rest. kept_next t begins ahead rest (step t begins);
@@ -153,6 +160,7 @@ module _ {told : Type 0} (at count : ℕ) (ns : Namespace) (time : ℕ) (journal
       subst (λ l. SeenTruly (answers_of (asked_at at) old.count opens.version.ctime opened) l old s) (sym (all_but_next (seen_at line journal.live s))) (serving.said t opened opens none).0.seen,
     );
     opening = λ t some opened opens none. serving.opening t opened opens none;
+    started = λ t some begins. serving.started t begins;
     some = subst (SomeLeft old.count) (sym (all_but_next (seen_at line journal.live s))) serving.left;
     kept = λ t begins ahead rest. subst (λ l. RunKept (Unit {0}) (course_of (asked_at at) old.count begins.sound.opens.version.ctime begins.sound.opened l ahead) old s)
         (sym (append_assoc seen (seen_at line journal.live s ∷ []) rest)) (here_kept t begins ahead (seen_at line journal.live s ∷ rest));

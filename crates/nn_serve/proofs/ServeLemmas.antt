@@ -54,6 +54,7 @@ came_to at script left before after old new seen end so read = record {
     most = so.most;
     said = so.said;
     opening = so.opening;
+    started = so.started;
     some = so.some;
     kept = so.kept;
     ended = so.ended;

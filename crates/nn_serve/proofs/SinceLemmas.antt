@@ -1,12 +1,13 @@
 -- What is known of a run on its way, for each way out of it.
+use Rattle.nn_begin.specs.Begun.{IsStarted}
 use Rattle.nn_run.specs.Window.{text_of, commands_of}
 use Rattle.nn_host.specs.Runs.{Throughout}
-use Rattle.std.proofs.Common.{◌≡◌, ◌≢◌, inl, inr, ℕ, Bool, false, if◌then◌else◌, List, [], ◌++◌, length, take, drop, map, None, refl, sym, ◌∙◌, ap, subst, arith, ◌≤◌}
+use Rattle.std.proofs.Common.{◌≡◌, ◌≢◌, inl, inr, ℕ, Bool, false, if◌then◌else◌, List, [], ◌++◌, length, take, drop, map, None, refl, sym, ◌∙◌, ap, subst, arith, ◌≤◌, ◌<◌}
 use Rattle.std.proofs.Math.Seq.{drop-append_seam}
 use Rattle.std.proofs.lemmas.List.{take_all, length-append, length-drop}
 use Rattle.nn_base.specs.DirSets.{has}
 use Rattle.nn_base.specs.Paths.{Bytes}
-use Rattle.nn_host.specs.Moments.{State}
+use Rattle.nn_host.specs.Moments.{State, Moment}
 use Rattle.nn_host.specs.Calls.{next_count}
 use Rattle.nn_host.proofs.RunsLemmas.{out_whole_trans, silent_whole, throughout_trans, throughout_weaker}
 use Rattle.nn_tree.specs.Namespace.{Namespace}
@@ -24,7 +25,7 @@ use Rattle.nn_server.specs.declared.status.Status.{Status}
 use Rattle.nn_server.specs.Came.{Speaks, is_out_fault}
 use Rattle.nn_serve.specs.declared.ending.RunEnd.{RunEnd}
 use Rattle.nn_serve.specs.declared.ending.RunEnd.TheVariants.{Refused, NoneLeft}
-use Rattle.nn_serve.specs.Ran.{asked_at, BeginsSoundly, CausedBy, EndsUnopened, IsOpeningAt}
+use Rattle.nn_serve.specs.Ran.{asked_at, BeginsSoundly, CausedBy, EndsUnopened, AsItStarts, StartsAll}
 use Rattle.nn_serve.specs.Serving.{IsServing}
 
 -- ---- what was said since
@@ -89,7 +90,17 @@ pub first_long : (at count ctime : ℕ) (opened : Opening) (seen : List Asked) �
 first_long at count ctime opened seen = omega (arith, length-append (started_line opened.last) (text_of (commands_of count (first_of (asked_at at) opened) seen)))
 
 -- so whatever is said behind answers, it isn't said then
-pub opening_on : (last : ℕ) (old s new : State) (text : Bytes) → s.now.said ≡ old.now.said ++ text → length (started_line last) ≤ length text → Throughout (Unit {0}) old s (IsOpeningAt last old)
-    → Throughout (Unit {0}) s new (λ m. (more : Bytes) × (m.said ≡ s.now.said ++ more)) → Throughout (Unit {0}) old new (IsOpeningAt last old)
-opening_on last old s new text said long first later = throughout_trans first (throughout_weaker later (λ u m is some few i.
+pub opening_on : (Q : Moment → Type 0) (last : ℕ) (old s new : State) (text : Bytes) → s.now.said ≡ old.now.said ++ text → length (started_line last) ≤ length text → Throughout (Unit {0}) old s (AsItStarts last old Q)
+    → Throughout (Unit {0}) s new (λ m. (more : Bytes) × (m.said ≡ s.now.said ++ more)) → Throughout (Unit {0}) old new (AsItStarts last old Q)
+opening_on Q last old s new text said long first later = throughout_trans first (throughout_weaker later (λ u m is some few.
     absurd (omega (arith, few, long, length-drop (length old.now.said) m.said, ap length is.1, length-append s.now.said is.0, ap length said, length-append old.now.said text))))
+
+-- nor then do directories change
+pub starts_on : (last : ℕ) (ns : Namespace) (old s new : State) (text : Bytes) → s.now.said ≡ old.now.said ++ text → length (started_line last) ≤ length text → StartsAll old s last ns
+    → Throughout (Unit {0}) s new (λ m. (more : Bytes) × (m.said ≡ s.now.said ++ more)) → StartsAll old new last ns
+starts_on last ns old s new text said long first later = record {
+  version = first.version;
+  list = first.list;
+  stands = first.stands;
+  each = opening_on (λ m. (i : ℕ) → i < old.count → IsStarted first.version first.list last (m.dirs i).disk) last old s new text said long first.each later;
+}

@@ -105,6 +105,9 @@ module _ {told : Type 0} (at : ℕ) (old s : State) (ns : Namespace) (last : ℕ
     last_id = ready.last_id;
     opens = λ t opened opens none. (book_so t opened opens none, (opened_so t opened opens).1);
     unrefused = λ t refusal refuses. (ok t).1.unrefused refusal refuses.applies;
+    started = λ t begins.
+        let it = started t begins.sound (shared_at old begins) (starts_from old begins) in
+        (version, (shared_at old begins).ns version.ctime, refl, (λ i below. it.begun.each i (subst (λ k. i < k) (sym quiet.each.count) below)));
     kept = start_kept at old s kept quiet;
     stands = begun_stands;
   }

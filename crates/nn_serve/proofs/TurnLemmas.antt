@@ -26,10 +26,10 @@ use Rattle.nn_whole.proofs.ServedLemmas.{next_is_said, silent_is_said}
 use Rattle.nn_core.specs.declared.event.End.{End}
 use Rattle.nn_core.specs.Events.{asked_at as seen_at, running, HasStepped}
 use Rattle.nn_core.specs.Standing.{HasIds}
-use Rattle.nn_serve.specs.Ran.{asked_at, IsLeftAt, BeginsSoundly}
+use Rattle.nn_serve.specs.Ran.{asked_at, IsLeftAt, BeginsSoundly, NoneFailed}
 use Rattle.nn_serve.specs.Serving.{IsServing, HasRoom}
 use Rattle.nn_serve.specs.Turns.{TurnsTo}
-use Rattle.nn_serve.proofs.SinceLemmas.{goes_on, step_counts, first_long, opening_on}
+use Rattle.nn_serve.proofs.SinceLemmas.{goes_on, step_counts, first_long, opening_on, starts_on}
 use Rattle.nn_serve.proofs.OutLemmas.{out_stepped}
 
 -- ---- ids
@@ -99,8 +99,14 @@ module _ {told : Type 0} (at count : ℕ) (ns ns_after : Namespace) (time time_a
           (let live = stepped.live.some (inl (serving.some there)) in (live.0, (let below = stepped.ready.below live.0 live.1 in omega (arith, below, serving.listed)), live.1));
       opening = λ tells opened opens none.
           let come = (serving.said tells opened opens none).0 in
-          opening_on opened.last old s new (answers_of (asked_at at) old.count opens.version.ctime opened seen) come.said (first_long at old.count opens.version.ctime opened seen) (serving.opening tells opened opens none)
+          opening_on (NoneFailed old) opened.last old s new (answers_of (asked_at at) old.count opens.version.ctime opened seen) come.said (first_long at old.count opens.version.ctime opened seen) (serving.opening tells opened opens none)
           (throughout_weaker (spoken tells opened opens none) (λ u m is. (take is.0.0 (reply_at old.count (after_asked old.count (first_of (asked_at at) opened) seen) next).text, is.0.1)));
+      started = λ tells begins.
+          let opened = begins.sound.opened in
+          let opens = begins.sound.opens in
+          let come = (serving.said tells opened opens begins.unsaved).0 in
+          starts_on opened.last opened.book.ns old s new (answers_of (asked_at at) old.count opens.version.ctime opened seen) come.said (first_long at old.count opens.version.ctime opened seen) (serving.started tells begins)
+          (throughout_weaker (spoken tells opened opens begins.unsaved) (λ u m is. (take is.0.0 (reply_at old.count (after_asked old.count (first_of (asked_at at) opened) seen) next).text, is.0.1)));
       out = goes_on old s new serving.out stepped.out;
       unrefused = serving.unrefused;
       grew = λ tells.
@@ -133,6 +139,7 @@ silent at count ns time journal seen old s serving line reads more room = (
     left = λ there. one_more old.count seen (seen_at line journal.live s) (serving.left there)
         (let live = serving.some there in (live.0, (let below = serving.ready.below live.0 live.1 in omega (arith, below, serving.listed)), live.1));
     opening = serving.opening;
+    started = serving.started;
     out = serving.out;
     unrefused = serving.unrefused;
     grew = serving.grew;

@@ -9,6 +9,8 @@ use Rattle.nn_base.specs.declared.file_name.FileName.TheVariants.{InProgress}
 use Rattle.nn_host.specs.Moments.{Moment, State, IsLawful, faults_at}
 use Rattle.nn_host.specs.Calls.{next_count}
 use Rattle.nn_host.specs.Runs.{Throughout, SameCounts}
+use Rattle.nn_marks.specs.declared.version.Version.{Version}
+use Rattle.nn_tree.specs.Namespace.{Namespace}
 use Rattle.nn_pick.specs.declared.intent.Intent.TheVariants.{Start}
 use Rattle.nn_pick.specs.declared.refusal.Refusal.{Refusal}
 use Rattle.nn_pick.specs.Refusing.{Refuses, spent_from}
@@ -18,6 +20,7 @@ use Rattle.nn_run.specs.Running.{Asked, SeeLive}
 use Rattle.nn_run.specs.Window.{said_since}
 use Rattle.nn_run.specs.Course.{started_line, RunAsked, dirs_of, answers_of, course_of, RunKept}
 use Rattle.nn_whole.specs.Ended.{OpensToLast}
+use Rattle.nn_begin.specs.Begun.{IsStarted}
 use Rattle.nn_whole.specs.Counted.{SeenWithin}
 use Rattle.nn_whole.specs.Served.{SeenTruly}
 use Rattle.nn_serve.specs.declared.ending.RunEnd.{RunEnd}
@@ -46,9 +49,20 @@ RunSays answers seen reached OutFault text = ((later : Bytes) × (answers seen �
 
 -- ---- which directories are left
 
--- at this moment, if a part of it was said that the run has started, no count has risen since
-abbrev pub IsOpeningAt : ℕ → State → Moment → Type 0
-IsOpeningAt last old m = 0 < length (said_since old m) → length (said_since old m) < length (started_line last) → (i : ℕ) → (m.dirs i).faults ≡ faults_at old i
+-- a moment has this if a part of it was said that the run has started, from this id on
+abbrev pub AsItStarts : ℕ → State → (Moment → Type 0) → Moment → Type 0
+AsItStarts last old Q m = 0 < length (said_since old m) → length (said_since old m) < length (started_line last) → Q m
+
+-- no count has risen since
+abbrev pub NoneFailed : State → Moment → Type 0
+NoneFailed old m = (i : ℕ) → (m.dirs i).faults ≡ faults_at old i
+
+-- As it is said that the run has started, each directory is NORMAL and tidied, with the image of this namespace at this id and one segment in progress behind it.
+pub record StartsAll (old new : State) (last : ℕ) (ns : Namespace) : Type 0 where
+  pub version : Version
+  pub list : ℕ → Namespace
+  pub stands : list last ≡ ns
+  pub each : Throughout (Unit {0}) old new (AsItStarts last old (λ m. (i : ℕ) → i < old.count → IsStarted version list last (m.dirs i).disk))
 
 -- a listed directory was live at this line
 abbrev pub IsLeftAt : ℕ → Asked → Type 0
@@ -102,7 +116,9 @@ pub record RunRan (told_host told_source : Type 0) (at : ℕ) (script left : Byt
   pub said : told_host → (opened : Opening) (opens : Opens (dirs_of old) Start opened) → opened.book.saved ≡ None → RunSays (answers_of (asked_at at) old.count opens.version.ctime opened) seen reached end text
       × SeenTruly (answers_of (asked_at at) old.count opens.version.ctime opened) (take reached seen) old new
   -- no call on a directory had failed when it was said that the run has started, so a count that rose did so since then
-  pub opening : told_host → text ≢ [] → (opened : Opening) → Opens (dirs_of old) Start opened → opened.book.saved ≡ None → Throughout (Unit {0}) old new (IsOpeningAt opened.last old)
+  pub opening : told_host → text ≢ [] → (opened : Opening) → Opens (dirs_of old) Start opened → opened.book.saved ≡ None → Throughout (Unit {0}) old new (AsItStarts opened.last old (NoneFailed old))
+  -- and how each directory stood then
+  pub started : told_host → text ≢ [] → (begins : BeginsSoundly old) → StartsAll old new begins.sound.opened.last begins.sound.opened.book.ns
   -- at every moment every choice with a directory of the run opens into its window, whatever lines come behind those that were read
   pub kept : told_host → (begins : BeginsSoundly old) (ahead : ℕ → Bool) (rest : List Asked) → RunKept (Unit {0}) (course_of (asked_at at) old.count begins.sound.opens.version.ctime begins.sound.opened (seen ++ rest) ahead) old new
   -- and what done work leaves

@@ -2,9 +2,11 @@
 use Rattle.std.specs.Prelude.{◌≡◌, ◌≢◌, ℕ, ◌+◌, ◌*◌, ◌^◌, ◌<◌, ◌≤◌, Bool, true, None, List, [], ◌++◌, length, take}
 use Rattle.nn_base.specs.DirSets.{has, count_of}
 use Rattle.nn_base.specs.Paths.{Bytes}
-use Rattle.nn_host.specs.Moments.{State, faults_at}
+use Rattle.nn_host.specs.Moments.{State, disk_at, faults_at}
 use Rattle.nn_host.specs.Runs.{Throughout, Unspoken, SameCounts}
+use Rattle.nn_marks.specs.declared.version.Version.{Version}
 use Rattle.nn_tree.specs.Namespace.{Namespace}
+use Rattle.nn_begin.specs.Begun.{IsStarted}
 use Rattle.nn_pick.specs.declared.intent.Intent.TheVariants.{Start}
 use Rattle.nn_pick.specs.declared.refusal.Refusal.{Refusal}
 use Rattle.nn_pick.specs.Refusing.{Refuses, spent_from}
@@ -22,7 +24,7 @@ use Rattle.nn_server.specs.Came.{Speaks}
 use Rattle.nn_serve.specs.declared.ending.RunEnd.{RunEnd}
 use Rattle.nn_serve.specs.declared.ending.RunEnd.TheVariants.{Ended, Refused}
 use Rattle.nn_serve.specs.Ended.{run_status}
-use Rattle.nn_serve.specs.Ran.{asked_at, RunSays, IsOpeningAt, SomeLeft, BeginsSoundly, LeavesLast, CausedBy, EndsUnopened}
+use Rattle.nn_serve.specs.Ran.{asked_at, RunSays, AsItStarts, NoneFailed, StartsAll, SomeLeft, BeginsSoundly, LeavesLast, CausedBy, EndsUnopened}
 
 -- ---- on its way
 
@@ -37,6 +39,7 @@ pub record HasBegun (told : Type 0) (at count : ℕ) (ns : Namespace) (journal :
   pub last_id : journal.last ≡ last + 1
   pub opens : told → (opened : Opening) → Opens (dirs_of old) Start opened → opened.book.saved ≡ None → (opened.book ≡ unsaved ns) × (opened.last ≡ last)
   pub unrefused : told → (refusal : Refusal) → ¬ Refuses (dirs_of old) Start refusal
+  pub started : told → (begins : BeginsSoundly old) → (version : Version) × (list : ℕ → Namespace) × (list last ≡ begins.sound.opened.book.ns) × ((i : ℕ) → i < old.count → IsStarted version list last (disk_at s i))
   pub kept : told → (begins : BeginsSoundly old) (ahead : ℕ → Bool) (rest : List Bytes) → KeptSoFar (asked_at at) begins.sound.opens.version.ctime begins.sound.opened ahead [] rest old s
   pub stands : told → BeginsSoundly old → Stands journal ns s
 
@@ -52,7 +55,8 @@ pub record IsServing (told : Type 0) (at count : ℕ) (ns : Namespace) (time : �
   pub grew : told → (text : Bytes) × (s.now.said ≡ old.now.said ++ text)
   pub said : told → (opened : Opening) (opens : Opens (dirs_of old) Start opened) → opened.book.saved ≡ None
       → HasSaid (asked_at at) opens.version.ctime opened (has journal.live) seen old s × (running ns time ≡ after_asked old.count (first_of (asked_at at) opened) seen)
-  pub opening : told → (opened : Opening) → Opens (dirs_of old) Start opened → opened.book.saved ≡ None → Throughout (Unit {0}) old s (IsOpeningAt opened.last old)
+  pub opening : told → (opened : Opening) → Opens (dirs_of old) Start opened → opened.book.saved ≡ None → Throughout (Unit {0}) old s (AsItStarts opened.last old (NoneFailed old))
+  pub started : told → (begins : BeginsSoundly old) → StartsAll old s begins.sound.opened.last begins.sound.opened.book.ns
   pub kept : told → (begins : BeginsSoundly old) (ahead : ℕ → Bool) (rest : List Bytes) → KeptSoFar (asked_at at) begins.sound.opens.version.ctime begins.sound.opened ahead seen rest old s
   pub stands : told → BeginsSoundly old → Stands journal ns s
 
@@ -71,7 +75,8 @@ pub record EndsSo (told : Type 0) (at : ℕ) (old new : State) (seen : List Aske
   pub most : length seen ≤ reached + 1
   pub said : told → (opened : Opening) (opens : Opens (dirs_of old) Start opened) → opened.book.saved ≡ None → RunSays (answers_of (asked_at at) old.count opens.version.ctime opened) seen reached end text
       × SeenTruly (answers_of (asked_at at) old.count opens.version.ctime opened) (take reached seen) old new
-  pub opening : told → text ≢ [] → (opened : Opening) → Opens (dirs_of old) Start opened → opened.book.saved ≡ None → Throughout (Unit {0}) old new (IsOpeningAt opened.last old)
+  pub opening : told → text ≢ [] → (opened : Opening) → Opens (dirs_of old) Start opened → opened.book.saved ≡ None → Throughout (Unit {0}) old new (AsItStarts opened.last old (NoneFailed old))
+  pub started : told → text ≢ [] → (begins : BeginsSoundly old) → StartsAll old new begins.sound.opened.last begins.sound.opened.book.ns
   pub some : SomeLeft old.count (take reached seen)
   pub kept : told → (begins : BeginsSoundly old) (ahead : ℕ → Bool) (rest : List Asked) → RunKept (Unit {0}) (course_of (asked_at at) old.count begins.sound.opens.version.ctime begins.sound.opened (seen ++ rest) ahead) old new
   pub ended : told → end ≡ Ended → (begins : BeginsSoundly old) → LeavesLast (asked_at at) begins.sound.opens.version.ctime begins.sound.opened seen old new

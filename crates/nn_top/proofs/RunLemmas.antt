@@ -1,5 +1,5 @@
 -- The record of a run over directories, from its command's end to the return: the last line keeps what was kept.
-use Rattle.std.proofs.Common.{◌≡◌, ◌≢◌, inl, inr, ⊎_elim, ℕ, ◌≤◌, Bool, false, List, [], ◌∷◌, ◌++◌, take, drop, length, refl, sym, ◌∙◌, ap, subst, append_assoc, if◌then◌else◌, arith}
+use Rattle.std.proofs.Common.{◌≡◌, ◌≢◌, inl, inr, ⊎_elim, ℕ, ◌≤◌, ◌<◌, Bool, false, List, [], ◌∷◌, ◌++◌, take, drop, length, refl, sym, ◌∙◌, ap, subst, append_assoc, if◌then◌else◌, arith}
 use Rattle.std.specs.List.{Contains}
 use Rattle.std.proofs.lemmas.Bool.{false≢true}
 use Rattle.std.proofs.lemmas.List.{append-nil, take-append-drop, take_all}
@@ -7,7 +7,7 @@ use Rattle.std.proofs.lemmas.List.Elements.{All-weaker}
 use Rattle.nn_base.specs.Paths.{Bytes}
 use Rattle.nn_base.specs.declared.sub.Sub.TheVariants.{Current}
 use Rattle.nn_base.specs.declared.file_name.FileName.TheVariants.{InProgress}
-use Rattle.nn_host.specs.Moments.{Entry, Dir, State, IsLawful, faults_at}
+use Rattle.nn_host.specs.Moments.{Entry, Dir, Moment, State, IsLawful, faults_at}
 use Rattle.nn_host.specs.Disk.{Reads}
 use Rattle.nn_host.specs.Calls.{next_count}
 use Rattle.nn_host.specs.Runs.{Throughout}
@@ -16,6 +16,7 @@ use Rattle.nn_pick.specs.Opening.{Opening}
 use Rattle.nn_say.specs.Saying.{SaysFronts}
 use Rattle.nn_run.specs.Running.{Asked}
 use Rattle.nn_run.specs.Course.{RunAsked, answers_of, course_of, RunKept}
+use Rattle.nn_begin.specs.Begun.{IsStarted}
 use Rattle.nn_whole.specs.Closed.{closing_lines, IsEarlyLine}
 use Rattle.nn_whole.specs.Counted.{SeenWithin}
 use Rattle.nn_whole.specs.Served.{SeenTruly}
@@ -28,7 +29,7 @@ use Rattle.nn_server.specs.Came.{Speaks, CameTo}
 use Rattle.nn_serve.specs.declared.ending.RunEnd.{RunEnd}
 use Rattle.nn_serve.specs.declared.ending.RunEnd.TheVariants.{Ended, Refused, HostFault, NoneLeft, SourceFault, ScriptTooLong, Memory, OutFault}
 use Rattle.nn_serve.specs.Ended.{run_status}
-use Rattle.nn_serve.specs.Ran.{IsOpeningAt, RunSays, RunRan, LeavesLast, CausedBy, BeginsSoundly, asked_at}
+use Rattle.nn_serve.specs.Ran.{AsItStarts, NoneFailed, RunSays, RunRan, LeavesLast, CausedBy, BeginsSoundly, asked_at}
 use Rattle.nn_serve.proofs.SinceLemmas.{first_long, opening_on}
 use Rattle.nn_top.specs.Lines.{last_line}
 use Rattle.nn_top.specs.Closes.{is_made, IsLast, ClosesWhole, ClosesCut, Closes, Closing}
@@ -155,23 +156,23 @@ module _ (asked : RunAsked) (ctime : ℕ) (opened : Opening) (seen : List Asked)
 
 -- ---- while it was said that the run has started
 
-opening_more : (at ctime : ℕ) (opened : Opening) (done : List Asked) (a b c : State) (text last : Bytes) → b.now.said ≡ a.now.said ++ text → text ≡ answers_of (asked_at at) a.count ctime opened done → SaysFronts (Unit {0}) b c last
-    → Throughout (Unit {0}) a b (IsOpeningAt opened.last a) → Throughout (Unit {0}) a c (IsOpeningAt opened.last a)
-opening_more at ctime opened done a b c text last said is fronts first =
-    opening_on opened.last a b c text said (omega (arith, ap length is, first_long at a.count ctime opened done)) first (throughout_weaker fronts (λ u m is. (take is.1 last, is.2)))
+opening_more : (Q : Moment → Type 0) (at ctime : ℕ) (opened : Opening) (done : List Asked) (a b c : State) (text last : Bytes) → b.now.said ≡ a.now.said ++ text → text ≡ answers_of (asked_at at) a.count ctime opened done → SaysFronts (Unit {0}) b c last
+    → Throughout (Unit {0}) a b (AsItStarts opened.last a Q) → Throughout (Unit {0}) a c (AsItStarts opened.last a Q)
+opening_more Q at ctime opened done a b c text last said is fronts first =
+    opening_on Q opened.last a b c text said (omega (arith, ap length is, first_long at a.count ctime opened done)) first (throughout_weaker fronts (λ u m is. (take is.1 last, is.2)))
 
-opening_after : {told : Type 0} {result : Status} (at ctime : ℕ) (opened : Opening) (seen : List Asked) (reached : ℕ) (a b c : State) (text : Bytes) (end : RunEnd) → told → b.now.said ≡ a.now.said ++ text
+opening_after : (Q : Moment → Type 0) {told : Type 0} {result : Status} (at ctime : ℕ) (opened : Opening) (seen : List Asked) (reached : ℕ) (a b c : State) (text : Bytes) (end : RunEnd) → told → b.now.said ≡ a.now.said ++ text
     → RunSays (answers_of (asked_at at) a.count ctime opened) seen reached end text → Closing told b c (run_status end) result → text ≢ []
-    → Throughout (Unit {0}) a b (IsOpeningAt opened.last a) → Throughout (Unit {0}) a c (IsOpeningAt opened.last a)
-opening_after at ctime opened seen reached a b c text Ended tells said says closing some first = opening_more at ctime opened seen a b c text (last_line closing.last) said says.1 (throughout_told (λ u. tells) closing.fronts) first
-opening_after at ctime opened seen reached a b c text (Refused refusal) tells said says closing some first = absurd (some says.0)
-opening_after at ctime opened seen reached a b c text (HostFault i) tells said says closing some first = absurd (some says.0)
-opening_after at ctime opened seen reached a b c text NoneLeft tells said says closing some first = opening_more at ctime opened (take reached seen) a b c text (last_line closing.last) said says (throughout_told (λ u. tells) closing.fronts) first
-opening_after at ctime opened seen reached a b c text SourceFault tells said says closing some first = opening_more at ctime opened seen a b c text (last_line closing.last) said says.1 (throughout_told (λ u. tells) closing.fronts) first
-opening_after at ctime opened seen reached a b c text ScriptTooLong tells said says closing some first = opening_more at ctime opened seen a b c text (last_line closing.last) said says.1 (throughout_told (λ u. tells) closing.fronts) first
-opening_after at ctime opened seen reached a b c text Memory tells said (inl none) closing some first = absurd (some none.0)
-opening_after at ctime opened seen reached a b c text Memory tells said (inr is) closing some first = opening_more at ctime opened (take reached seen) a b c text (last_line closing.last) said is (throughout_told (λ u. tells) closing.fronts) first
-opening_after at ctime opened seen reached a b c text OutFault tells said says closing some first = subst (λ (s : State). Throughout (Unit {0}) a s (IsOpeningAt opened.last a)) (sym (silent_same closing)) first
+    → Throughout (Unit {0}) a b (AsItStarts opened.last a Q) → Throughout (Unit {0}) a c (AsItStarts opened.last a Q)
+opening_after Q at ctime opened seen reached a b c text Ended tells said says closing some first = opening_more Q at ctime opened seen a b c text (last_line closing.last) said says.1 (throughout_told (λ u. tells) closing.fronts) first
+opening_after Q at ctime opened seen reached a b c text (Refused refusal) tells said says closing some first = absurd (some says.0)
+opening_after Q at ctime opened seen reached a b c text (HostFault i) tells said says closing some first = absurd (some says.0)
+opening_after Q at ctime opened seen reached a b c text NoneLeft tells said says closing some first = opening_more Q at ctime opened (take reached seen) a b c text (last_line closing.last) said says (throughout_told (λ u. tells) closing.fronts) first
+opening_after Q at ctime opened seen reached a b c text SourceFault tells said says closing some first = opening_more Q at ctime opened seen a b c text (last_line closing.last) said says.1 (throughout_told (λ u. tells) closing.fronts) first
+opening_after Q at ctime opened seen reached a b c text ScriptTooLong tells said says closing some first = opening_more Q at ctime opened seen a b c text (last_line closing.last) said says.1 (throughout_told (λ u. tells) closing.fronts) first
+opening_after Q at ctime opened seen reached a b c text Memory tells said (inl none) closing some first = absurd (some none.0)
+opening_after Q at ctime opened seen reached a b c text Memory tells said (inr is) closing some first = opening_more Q at ctime opened (take reached seen) a b c text (last_line closing.last) said is (throughout_told (λ u. tells) closing.fronts) first
+opening_after Q at ctime opened seen reached a b c text OutFault tells said says closing some first = subst (λ (s : State). Throughout (Unit {0}) a s (AsItStarts opened.last a Q)) (sym (silent_same closing)) first
 
 -- ---- counts and reads
 
@@ -223,7 +224,17 @@ module _ {told told_source : Type 0} {at : ℕ} {script left : Bytes} {before af
         (says.0, seen_on (asked_at at) opens.version.ctime opened ran.seen ran.reached a b c text end tells (speaks.said tells) says.0 closing says.1);
     opening = λ tells some opened opens unsaved.
         let says = ran.said tells opened opens unsaved in
-        opening_after at opens.version.ctime opened ran.seen ran.reached a b c text end tells (speaks.said tells) says.0 closing some (ran.opening tells some opened opens unsaved);
+        opening_after (NoneFailed a) at opens.version.ctime opened ran.seen ran.reached a b c text end tells (speaks.said tells) says.0 closing some (ran.opening tells some opened opens unsaved);
+    started = λ tells some begins.
+        let opened = begins.sound.opened in
+        let opens = begins.sound.opens in
+        let says = ran.said tells opened opens begins.unsaved in
+        let all = ran.started tells some begins in record {
+          version = all.version;
+          list = all.list;
+          stands = all.stands;
+          each = opening_after (λ m. (i : ℕ) → i < a.count → IsStarted all.version all.list opened.last (m.dirs i).disk) at opens.version.ctime opened ran.seen ran.reached a b c text end tells (speaks.said tells) says.0 closing some all.each;
+        };
     some = ran.some;
     kept = λ tells begins ahead rest.
         let says = ran.said tells begins.sound.opened begins.sound.opens begins.unsaved in
