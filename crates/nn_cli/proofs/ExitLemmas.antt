@@ -52,6 +52,7 @@ counts_alone left faults before after old new (Run at dirs) status did = record 
       started = ran.started;
       some = ran.some;
       cause = ran.cause;
+      once = ran.once;
       live = ran.live;
       complete = λ never. absurd never;
     };

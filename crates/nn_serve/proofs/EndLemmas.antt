@@ -29,7 +29,7 @@ use Rattle.nn_serve.specs.declared.ending.RunEnd.TheVariants.{Ended, NoneLeft}
 use Rattle.nn_serve.specs.Ended.{run_status}
 use Rattle.nn_serve.specs.Ran.{asked_at, BeginsSoundly, LeavesLast, AsItStarts, NoneFailed, StartsAll, SomeLeft}
 use Rattle.nn_serve.specs.Serving.{IsServing, EndsSo}
-use Rattle.nn_serve.proofs.SinceLemmas.{said_of, speaks_whole, goes_on, never_refused, all_of, step_counts, none_live, said_here, answers_here, kept_here, first_long, opening_on, starts_on}
+use Rattle.nn_serve.proofs.SinceLemmas.{said_of, speaks_whole, goes_on, never_refused, all_of, step_counts, none_live, said_here, answers_here, kept_here, first_long, opening_on, starts_on, counted_once}
 
 module _ {told : Type 0} (at count : ℕ) (ns : Namespace) (time : ℕ) (journal : JournalSet) (seen : List Asked) (old s : State) (serving : IsServing told at count ns time journal seen old s) where
   -- what is known on its way
@@ -142,6 +142,7 @@ module _ {told : Type 0} (at count : ℕ) (ns : Namespace) (time : ℕ) (journal
       ended = λ t is begins. leaves_last ended (lawful t) t begins;
       refused = never_refused old new (said_of old s) Ended (λ r e. cc e) serving.unrefused;
       cause = (let some = ended.some in let same = live_same ended some.0 some.1 in (some.0, same.0, same.1));
+      once = counted_once (has after.live) old new Ended (ended_sees (Ok done) ended).counts;
       live = (let sees = ended_sees (Ok done) ended in (subst (SeeLive old.count (λ i. faults_at old i)) (sym (all_of seen)) sees.sees, subst (λ l. SeenWithin l old new) (sym (all_of seen)) sees.within));
     }
 
@@ -159,5 +160,6 @@ module _ {told : Type 0} (at count : ℕ) (ns : Namespace) (time : ℕ) (journal
       ended = λ t is begins. absurd (cc is);
       refused = never_refused old new (said_of old s) NoneLeft (λ r e. cc e) serving.unrefused;
       cause = none_live after old new (ended_sees (Err e) ended).counts (λ j. (ended.failed j).0);
+      once = counted_once (has after.live) old new NoneLeft (ended_sees (Err e) ended).counts;
       live = (let sees = ended_sees (Err e) ended in (subst (SeeLive old.count (λ i. faults_at old i)) (sym (all_of seen)) sees.sees, subst (λ l. SeenWithin l old new) (sym (all_of seen)) sees.within));
     }

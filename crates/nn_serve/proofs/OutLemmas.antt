@@ -35,7 +35,7 @@ use Rattle.nn_serve.specs.declared.ending.RunEnd.TheVariants.{Ended, Refused, No
 use Rattle.nn_serve.specs.Ended.{run_status, run_end}
 use Rattle.nn_serve.specs.Ran.{asked_at, RunSays, BeginsSoundly, CausedBy, SomeLeft, NoneFailed}
 use Rattle.nn_serve.specs.Serving.{IsServing, EndsSo}
-use Rattle.nn_serve.proofs.SinceLemmas.{said_of, since_is, since_all, speaks_whole, goes_on, never_refused, all_of, step_counts, none_live, said_here, answers_here, kept_here, first_long, opening_on, starts_on}
+use Rattle.nn_serve.proofs.SinceLemmas.{said_of, since_is, since_all, speaks_whole, goes_on, never_refused, all_of, step_counts, none_live, said_here, answers_here, kept_here, first_long, opening_on, starts_on, counted_once}
 
 module _ {told : Type 0} (at count : ℕ) (ns : Namespace) (time : ℕ) (journal : JournalSet) (seen : List Asked) (old s : State) (serving : IsServing told at count ns time journal seen old s) where
   -- what is known on its way
@@ -69,6 +69,7 @@ module _ {told : Type 0} (at count : ℕ) (ns : Namespace) (time : ℕ) (journal
     ended = λ t is begins. absurd (goes is);
     refused = never_refused old s (said_of old s) end differs serving.unrefused;
     cause = cause;
+    once = counted_once (has journal.live) old s end serving.sees.counts;
     live = (subst (SeeLive old.count (λ i. faults_at old i)) (sym (all_of seen)) serving.sees.sees, subst (λ l. SeenWithin l old s) (sym (all_of seen)) serving.sees.within);
   }
 
@@ -116,6 +117,7 @@ module _ {told : Type 0} (at count : ℕ) (ns : Namespace) (time : ℕ) (journal
       ended = λ t is begins. absurd (goes is);
       refused = never_refused old new text end differs serving.unrefused;
       cause = cause;
+      once = counted_once live old new end sees.counts;
       live = (subst (SeeLive old.count (λ i. faults_at old i)) (sym all_but_next) sees.sees, subst (λ l. SeenWithin l old new) (sym all_but_next) sees.within);
     }
       where
@@ -167,6 +169,7 @@ module _ {told : Type 0} (at count : ℕ) (ns : Namespace) (time : ℕ) (journal
     ended = λ t is begins. absurd (cc is);
     refused = never_refused old s (said_of old s) Memory (λ r e. cc e) serving.unrefused;
     cause = tt;
+    once = counted_once (has journal.live) old s Memory serving.sees.counts;
     live = (
       subst (SeeLive old.count (λ i. faults_at old i)) (sym (all_but_next (seen_at line journal.live s))) serving.sees.sees,
       subst (λ l. SeenWithin l old s) (sym (all_but_next (seen_at line journal.live s))) serving.sees.within,

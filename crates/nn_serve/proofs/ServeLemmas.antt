@@ -60,6 +60,7 @@ came_to at script left before after old new seen end so read = record {
     ended = so.ended;
     refused = so.refused;
     cause = so.cause;
+    once = so.once;
     live = so.live;
     complete = λ host source opened opens short source_room source_same out_room out_same i below room same.
         completes at script left before after old new seen host source opened opens short source_room source_same out_room out_same i below room same end so read;

@@ -25,7 +25,7 @@ use Rattle.nn_server.specs.declared.status.Status.{Status}
 use Rattle.nn_server.specs.Came.{Speaks, is_out_fault}
 use Rattle.nn_serve.specs.declared.ending.RunEnd.{RunEnd}
 use Rattle.nn_serve.specs.declared.ending.RunEnd.TheVariants.{Refused, NoneLeft}
-use Rattle.nn_serve.specs.Ran.{asked_at, BeginsSoundly, CausedBy, EndsUnopened, AsItStarts, StartsAll}
+use Rattle.nn_serve.specs.Ran.{asked_at, BeginsSoundly, CausedBy, FailOnce, EndsUnopened, AsItStarts, StartsAll}
 use Rattle.nn_serve.specs.Serving.{IsServing}
 
 -- ---- what was said since
@@ -65,6 +65,12 @@ pub step_counts : (journal after : JournalSet) (s new : State) → EachCounted j
 step_counts journal after s new counted i = elim (counted i) [
   | inl stays ↦ inl (stays.same_live, stays.faults)
   | inr dropped ↦ inr (dropped.was_among, dropped.not_live, dropped.faults)
+]
+
+pub counted_once : (live : ℕ → Bool) (old new : State) (end : RunEnd) → HasCounts live old new → FailOnce old new end
+counted_once live old new end counts never i below = elim (counts.each i below) [
+  | inl is ↦ inl is.1
+  | inr gone ↦ inr gone.1
 ]
 
 pub none_live : (after : JournalSet) (old new : State) → HasCounts (has after.live) old new → ((j : ℕ) → has after.live j ≡ false) → CausedBy old new NoneLeft

@@ -97,6 +97,10 @@ CausedBy old new (HostFault i) = (i.0 < old.count) × (faults_at new i.0 ≡ nex
 CausedBy old new NoneLeft = (i : ℕ) → i < old.count → faults_at new i ≡ next_count (faults_at old i)
 CausedBy old new end = Unit {0}
 
+-- A directory is dropped at its first failure and not touched again: its count is the same, or the next one. Before a run has started several can fail.
+abbrev pub FailOnce : State → State → RunEnd → Type 0
+FailOnce old new end = ((j : DirNo) → end ≢ HostFault j) → (i : ℕ) → i < old.count → (faults_at new i ≡ faults_at old i) ⊎ (faults_at new i ≡ next_count (faults_at old i))
+
 -- ---- directories that don't open
 
 -- It is refused, but where a call failed or there was no memory before that was known.
@@ -127,6 +131,7 @@ pub record RunRan (told_host told_source : Type 0) (at : ℕ) (script left : Byt
   pub refused : told_host → (refusal : Refusal) → (end ≡ Refused refusal → Refuses (dirs_of old) Start refusal × ((i : ℕ) → new.reads i ≡ old.reads i)) × (Refuses (dirs_of old) Start refusal → EndsUnopened refusal end × (text ≡ []))
   -- for every host: which counts rose, and that live are just those whose count hasn't
   pub cause : CausedBy old new end
+  pub once : FailOnce old new end
   pub live : SeeLive old.count (λ i. faults_at old i) (take reached seen) × SeenWithin (take reached seen) old new
   -- and that no line is answered once none is left
   pub some : SomeLeft old.count (take reached seen)

@@ -24,7 +24,7 @@ use Rattle.nn_server.specs.Came.{Speaks}
 use Rattle.nn_serve.specs.declared.ending.RunEnd.{RunEnd}
 use Rattle.nn_serve.specs.declared.ending.RunEnd.TheVariants.{Ended, Refused}
 use Rattle.nn_serve.specs.Ended.{run_status}
-use Rattle.nn_serve.specs.Ran.{asked_at, RunSays, AsItStarts, NoneFailed, StartsAll, SomeLeft, BeginsSoundly, LeavesLast, CausedBy, EndsUnopened}
+use Rattle.nn_serve.specs.Ran.{asked_at, RunSays, AsItStarts, NoneFailed, StartsAll, SomeLeft, BeginsSoundly, LeavesLast, CausedBy, FailOnce, EndsUnopened}
 
 -- ---- on its way
 
@@ -82,4 +82,5 @@ pub record EndsSo (told : Type 0) (at : ℕ) (old new : State) (seen : List Aske
   pub ended : told → end ≡ Ended → (begins : BeginsSoundly old) → LeavesLast (asked_at at) begins.sound.opens.version.ctime begins.sound.opened seen old new
   pub refused : told → (refusal : Refusal) → (end ≡ Refused refusal → Refuses (dirs_of old) Start refusal × ((i : ℕ) → new.reads i ≡ old.reads i)) × (Refuses (dirs_of old) Start refusal → EndsUnopened refusal end × (text ≡ []))
   pub cause : CausedBy old new end
+  pub once : FailOnce old new end
   pub live : SeeLive old.count (λ i. faults_at old i) (take reached seen) × SeenWithin (take reached seen) old new

@@ -244,6 +244,7 @@ module _ {told told_source : Type 0} {at : ℕ} {script left : Bytes} {before af
         let refused = ran.refused tells refusal in
         (λ is. let by = refused.0 is in (by.0, λ i. closing.dirs.reads tells i ∙ by.1 i), refused.1);
     cause = caused_on a b c end same_faults ran.cause;
+    once = λ never i below. ⊎_elim (λ same. inl (same_faults i ∙ same)) (λ rose. inr (same_faults i ∙ rose)) (ran.once never i below);
     live = (ran.live.0, within_on a b c (take ran.reached ran.seen) same_faults ran.live.1);
     complete = λ tells tells' opened opens short early unread fresh unsaid i below counted kept.
         ran.complete tells tells' opened opens short early unread fresh (out_before (run_status end) speaks closing unsaid) i below counted (sym (same_faults i) ∙ kept);
