@@ -1,17 +1,17 @@
 #!/bin/sh
-# Runs `namenode dry` over tools/quick.script before any proof, and shows each line of the script beside its answer.
+# Tells the story of two name directories before any proof: they fail and lose power, and what was kept is shown.
 set -eu
 cd "$(dirname "$0")/.."
 place=$(mktemp -d)
 trap 'rm -rf "$place"' EXIT
 
 cat <<'SAID'
-Compiles the program without its proofs, which takes about a minute, and runs `namenode dry`: a script on a namespace in
-memory alone. Each line of tools/quick.script stands here beside its answer.
+Compiles the program and the story without their proofs, which takes about a minute, and tells the story: the program runs over
+disks in memory, which fail and lose power, and starts again over what is left.
 SAID
-if ! (cd crates/nn_cli && rt try -- dry) < tools/quick.script > "$place/answers" 2> "$place/notes"; then
-    cat "$place/answers" "$place/notes" >&2
+if ! (cd crates/story && rt try --steps 1 --seconds 300) > "$place/told" 2> "$place/notes" < /dev/null; then
+    cat "$place/told" "$place/notes" >&2
     exit 1
 fi
-awk -v answers="$place/answers" -f tools/beside.awk tools/quick.script
-printf '\nNothing was proved: `make demo` proves the program, `make test` everything.\n'
+cat "$place/told"
+printf '\nNothing was proved: `make demo` proves the program and runs it over real folders, `make test` proves everything.\n'

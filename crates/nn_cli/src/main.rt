@@ -4,12 +4,17 @@
 
 mod real;
 
+use nn_files::Reserved;
 use nn_top::Status;
 use std::env;
 use std::io::ErrorKind;
 use std::process::ExitCode;
 
 fn main(rt: HostRuntime) -> ExitCode {
+    // Kept until the process ends.
+    let Ok(_reserved) = Reserved::open(&rt) else {
+        return no_memory();
+    };
     let alloc = rt.alloc();
     let words = match env::args(&rt) {
         Ok(mut words) => {

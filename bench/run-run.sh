@@ -1,0 +1,61 @@
+#!/bin/sh
+# What a command of `run` costs on a namespace of 1,011 nodes, and what a start reads. Files are made, get a block, are closed and
+# deleted, so that the namespace stays as large as it is. Costs are those of a script of 2,000 commands less those of one of 400.
+# Instructions are told by valgrind, calls of the system by strace; both hold on a busy machine too. The argument is the folder to work
+# in, a temporary one without it. PEER, where it is set, is another program with the same commands, which is measured beside.
+set -eu
+cd "$(dirname "$0")/.."
+ours=${PROGRAM:-$PWD/crates/nn_cli/out/nn_cli}
+work=$(mktemp -d "${1:-${TMPDIR:-/tmp}}/run.XXXXXX")
+trap 'rm -rf "$work"' EXIT
+test -x "$ours" || (cd crates/nn_cli && rt run -- state . > /dev/null)
+
+awk 'BEGIN { for (d = 0; d < 10; d++) { print "mkdir /g" d; for (f = 0; f < 100; f++) print "create /g" d "/f" f " 3" } }' > "$work/nodes"
+commands() {
+    awk -v count="$1" 'BEGIN {
+        for (n = 0; n < count; n += 4) {
+            file = "/g" n % 10 "/x" n
+            print "create " file " 3\nblock " file " 134217728\nclose " file "\ndelete " file
+        }
+    }' > "$work/script$1"
+}
+commands 400
+commands 2000
+
+# So many name directories that hold the nodes, anew.
+dirs() {
+    rm -rf "$work"/d[0-9]
+    for i in $(seq "$1"); do cp -r "$work/base" "$work/d$i"; done
+    ls -d "$work"/d[0-9]
+}
+instructions() {
+    valgrind --tool=cachegrind --cache-sim=no --cachegrind-out-file=/dev/null "$1" run $(dirs "$2") < "$work/script$3" 2>&1 > /dev/null | awk '/I *refs:/ { gsub(",", "", $NF); print $NF }'
+}
+# How often each call of the system was made.
+calls() {
+    strace -f -qq -o "$work/trace" "$1" run $(dirs "$2") < "$work/script$3" > /dev/null
+    sed -E 's/^[0-9]+ +//; s/\(.*//' "$work/trace" | sort | uniq -c
+}
+
+mkdir "$work/base"
+"$ours" format --cluster c1 --namespace 7 "$work/base" > /dev/null
+"$ours" run "$work/base" < "$work/nodes" > /dev/null
+
+for program in "$ours" ${PEER:+"$PEER"}; do
+    echo "$program"
+    for count in 1 2; do
+        few=$(instructions "$program" "$count" 400)
+        many=$(instructions "$program" "$count" 2000)
+        echo "  $count directories: $(((many - few) / 1600)) instructions a command"
+        calls "$program" "$count" 400 > "$work/few"
+        calls "$program" "$count" 2000 > "$work/many"
+        awk -v count="$count" '
+            FNR == NR { few[$2] = $1; next }
+            { more = ($1 - few[$2]) / 1600; if (more != 0) printf "    %-12s %.3f a command\n", $2, more }' "$work/few" "$work/many"
+    done
+done
+
+# A start over one directory: the bytes that are read of each file, beside those that it has.
+strace -f -y -e trace=read,pread64,readv -o "$work/trace" "$ours" run $(dirs 1) < /dev/null > /dev/null
+read=$(awk -v at="$work/d1/current/" 'index($0, at) { n += $NF } END { print n + 0 }' "$work/trace")
+echo "a start reads $read bytes of the $(cat "$work"/base/current/* | wc -c) that stand in current, of which $(cat "$work"/base/current/fsimage_0000000000000000000 "$work"/base/current/edits_* | wc -c) are the image and the segment"
