@@ -1,6 +1,6 @@
 #!/bin/sh
-# What a command of `run` costs on a namespace of 1,011 nodes, and what a start reads. Files are made, get a block, are closed and
-# deleted, so that the namespace stays as large as it is. Costs are those of a script of 2,000 commands less those of one of 400.
+# What a command of `run` costs on a namespace of 11 nodes and on one of 1,011, and what a start reads. Files are made, get a block, are
+# closed and deleted, so that the namespace stays as large as it is. Costs are those of a script of 2,000 commands less those of one of 400.
 # Instructions are told by valgrind, calls of the system by strace; both hold on a busy machine too. The argument is the folder to work
 # in, a temporary one without it. PEER, where it is set, is another program with the same commands, which is measured beside.
 set -eu
@@ -10,7 +10,9 @@ work=$(mktemp -d "${1:-${TMPDIR:-/tmp}}/run.XXXXXX")
 trap 'rm -rf "$work"' EXIT
 test -x "$ours" || (cd crates/nn_cli && rt run -- state . > /dev/null)
 
-awk 'BEGIN { for (d = 0; d < 10; d++) { print "mkdir /g" d; for (f = 0; f < 100; f++) print "create /g" d "/f" f " 3" } }' > "$work/nodes"
+nodes() {
+    awk -v files="$1" 'BEGIN { for (d = 0; d < 10; d++) { print "mkdir /g" d; for (f = 0; f < files; f++) print "create /g" d "/f" f " 3" } }'
+}
 commands() {
     awk -v count="$1" 'BEGIN {
         for (n = 0; n < count; n += 4) {
@@ -37,16 +39,26 @@ calls() {
     sed -E 's/^[0-9]+ +//; s/\(.*//' "$work/trace" | sort | uniq -c
 }
 
-mkdir "$work/base"
-"$ours" format --cluster c1 --namespace 7 "$work/base" > /dev/null
-"$ours" run "$work/base" < "$work/nodes" > /dev/null
+# A name directory with so many files in each of ten directories.
+base() {
+    rm -rf "$work/base"
+    mkdir "$work/base"
+    "$ours" format --cluster c1 --namespace 7 "$work/base" > /dev/null
+    nodes "$1" > "$work/nodes"
+    "$ours" run "$work/base" < "$work/nodes" > /dev/null
+}
 
 for program in "$ours" ${PEER:+"$PEER"}; do
     echo "$program"
+    base 0
+    few=$(instructions "$program" 1 400)
+    many=$(instructions "$program" 1 2000)
+    echo "  11 nodes, 1 directory: $(((many - few) / 1600)) instructions a command"
+    base 100
     for count in 1 2; do
         few=$(instructions "$program" "$count" 400)
         many=$(instructions "$program" "$count" 2000)
-        echo "  $count directories: $(((many - few) / 1600)) instructions a command"
+        echo "  1,011 nodes, $count directories: $(((many - few) / 1600)) instructions a command"
         calls "$program" "$count" 400 > "$work/few"
         calls "$program" "$count" 2000 > "$work/many"
         awk -v count="$count" '
