@@ -14,8 +14,8 @@ work=$(mktemp -d)
 trap 'rm -rf "$work"' EXIT
 ours=crates/bench_load/out/bench_load
 
-"${CC:-cc}" -O2 -o "$work/image" bench/image.c
-"${CC:-cc}" -O2 -o "$work/segment" bench/load.c -lz
+"${CC:-cc}" -O2 -o "$work/images" bench/image.c
+"${CC:-cc}" -O2 -o "$work/segments" bench/load.c -lz
 (cd crates/bench_load && rt run) >"$work/build.log" 2>&1 || { cat "$work/build.log" >&2; exit 1; }
 
 # Makes a folder with the image, and with records of this kind where there is one.
@@ -24,9 +24,9 @@ make() {
     name=$(printf 'fsimage_%019d' "$last")
     mkdir -p "$current"
     printf 'namespaceID=7\nclusterID=c1\ncTime=0\nstorageType=NAME_NODE\nblockpoolID=BP-7\nlayoutVersion=-1001\n' >"$current/VERSION"
-    "$work/image" "$files" "$current/$name" >/dev/null
+    "$work/images" "$files" "$current/$name" >/dev/null
     printf '%s *%s\n' "$(md5sum <"$current/$name" | cut -d ' ' -f 1)" "$name" >"$current/$name.md5"
-    [ "$1" = image ] || "$work/segment" "$files" "$records" "$1" >"$current/$(printf 'edits_%019d-%019d' $((last + 1)) $((last + records)))"
+    [ "$1" = image ] || "$work/segments" "$files" "$records" "$1" >"$current/$(printf 'edits_%019d-%019d' $((last + 1)) $((last + records)))"
 }
 for kind in image marks modes; do make "$kind"; done
 
