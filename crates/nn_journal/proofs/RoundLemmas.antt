@@ -1,7 +1,8 @@
 -- Rounds until no directory is dropped.
-use Rattle.std.proofs.Common.{◌≡◌, ◌≢◌, ◌⊎◌, inl, inr, ⊎_elim, ℕ, suc, ◌+◌, ◌*◌, ◌<◌, ◌≤◌, ◌==◌, ◌&&◌, not, Bool, true, false, cond, [], refl, sym, ◌∙◌, ap, subst, arith, vec_capacity}
+use Rattle.std.proofs.Common.{◌≡◌, ◌≢◌, ◌⊎◌, inl, inr, ⊎_elim, ℕ, suc, ◌+◌, ◌*◌, ◌<◌, ◌≤◌, ◌==◌, ◌&&◌, ◌||◌, not, Bool, true, false, cond, [], refl, sym, ◌∙◌, ap, subst, arith, vec_capacity}
 use mathlib.Core.Bool.{beq}
 use Rattle.std.specs.Cmp.Lexicographic.{pointwise}
+use Rattle.std.proofs.Math.Bool.{or-false}
 use Rattle.std.proofs.lemmas.Bool.{and_parts, cases_Bool}
 use Rattle.std.proofs.lemmas.Bool.Decides.{eqb_tells}
 use Rattle.nn_base.specs.DirSets.{Members, values, has, count_of}
@@ -254,13 +255,20 @@ module _ {told : Type 0} {p1 p2 : Place} {holders live1 live2 : Members} {b c : 
       let same = settled.stayed refl in
       subst (λ (s : Members). Finalizes told p0 live0 s a c) (sym same.1) (subst (λ (x : State). Finalizes told p0 live0 live1 a x) (sym same.2) ended)
 
--- ---- one directory is dropped
+-- ---- directories are dropped
 
-pub without_sub : {rest : Members} (set : Members) (i : ℕ) → ((j : ℕ) → has rest j ≡ (not (j == i) && has set j)) → (j : ℕ) → has rest j ≡ true → has set j ≡ true
-without_sub {rest} set i is j there = (and_parts (not (j == i)) (has set j) (sym (is j) ∙ there)).1
+pub rest_sub : {rest : Members} (set gone : Members) → ((j : ℕ) → has rest j ≡ (has set j && not (has gone j))) → (j : ℕ) → has rest j ≡ true → has set j ≡ true
+rest_sub {rest} set gone is j there = (and_parts (has set j) (not (has gone j)) (sym (is j) ∙ there)).0
 
-pub without_fewer : {rest : Members} (set : Members) (i : ℕ) → ((j : ℕ) → has rest j ≡ (not (j == i) && has set j)) → has set i ≡ true → count_of rest < count_of set
-without_fewer {rest} set i is there = fewer set rest (without_sub set i is) (λ same.
-    let gone : has rest i ≡ false = is i ∙ elim (eqb_tells i i) [ inl it ↦ ap (λ (x : Bool). not x && has set i) it.0 | inr other ↦ absurd (other.1 refl) ] in
-    let apart = sym gone ∙ ap (λ (s : Members). has s i) same ∙ there in
+pub rest_fewer : {rest : Members} (set gone : Members) → ((j : ℕ) → has rest j ≡ (has set j && not (has gone j))) → (i : ℕ) → has gone i ≡ true → has set i ≡ true → count_of rest < count_of set
+rest_fewer {rest} set gone is i goes there = fewer set rest (rest_sub set gone is) (λ same.
+    let lacks : has rest i ≡ false = is i ∙ ap (λ (x : Bool). x && not (has gone i)) there ∙ ap (λ (y : Bool). not y) goes in
+    let apart = sym lacks ∙ ap (λ (s : Members). has s i) same ∙ there in
     cc)
+
+-- a set of one
+pub one_is : {none one : Members} (i : ℕ) → ((j : ℕ) → has none j ≡ false) → ((j : ℕ) → has one j ≡ ((j == i) || has none j)) → (j : ℕ) → has one j ≡ (j == i)
+one_is {none} {one} i empty is j = is j ∙ ap (λ (x : Bool). (j == i) || x) (empty j) ∙ or-false (j == i)
+
+pub has_it : {one : Members} (i : ℕ) → ((j : ℕ) → has one j ≡ (j == i)) → has one i ≡ true
+has_it {one} i is = is i ∙ elim (eqb_tells i i) [ inl it ↦ it.0 | inr other ↦ absurd (other.1 refl) ]

@@ -1,5 +1,5 @@
 -- What rounds make of a journal and its directories: each ends the segment in progress and begins the next, until none drops a directory.
-use Rattle.std.specs.Prelude.{◌≡◌, ℕ, ◌+◌, ◌*◌, ◌<◌, ◌≤◌, ◌==◌, ◌&&◌, not, Bool, true, false}
+use Rattle.std.specs.Prelude.{◌≡◌, ℕ, ◌+◌, ◌*◌, ◌<◌, ◌≤◌, ◌&&◌, not, Bool, true, false}
 use Rattle.nn_base.specs.DirSets.{Members, has, count_of}
 use Rattle.nn_host.specs.Moments.{State, moment}
 use Rattle.nn_journal.specs.Places.{Place, BringsAhead, Went}
@@ -23,10 +23,10 @@ pub record HasSettled (again : Bool) (told : Type 0) (old_place place : Place) (
   pub rolled : again ≡ true → HasRolled told old_place place holders old_live live old new
   pub stayed : again ≡ false → (place ≡ old_place) × (live ≡ old_live) × (new ≡ old)
 
--- One directory was dropped without a call on it, and the rest went on ahead of it.
-pub record DropsAhead (told : Type 0) (i : ℕ) (old_place place : Place) (holders old_live live : Members) (old new : State) : Type 0 where
+-- These directories were dropped without a call on them, and the rest went on ahead of them.
+pub record DropsAhead (told : Type 0) (gone : Members) (old_place place : Place) (holders old_live live : Members) (old new : State) : Type 0 where
   pub rest : Members
-  pub without : (j : ℕ) → has rest j ≡ (not (j == i) && has old_live j)
+  pub without : (j : ℕ) → has rest j ≡ (has old_live j && not (has gone j))
   pub ahead : BringsAhead told old_place place holders rest live old new
   pub ended : Finalizes told old_place rest live old new
   pub went : Went told rest live old new

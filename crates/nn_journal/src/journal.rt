@@ -220,8 +220,7 @@ impl JournalSet {
         self.rounds(host)
     }
 
-    /// Drops a live directory, which isn't touched, and rolls, so that it ends below each live one. Where no segment is in
-    /// progress, one is begun and ended instead.
+    /// Drops a live directory that isn't to be written any more, without touching it, and goes on ahead of it as `drop_dirs` does.
     pub fn drop_dir<H: Host>(&mut self, host: &mut H, i: DirNo) -> Result<(), NoneLeft>
         requires below { (j : ℕ) → has self.old.live j ≡ true → j < (H.state host.old).count }
         requires dir { i.0 < 8 }
@@ -229,7 +228,7 @@ impl JournalSet {
         requires empty { self.old.buffer.items ≡ [] }
         requires fit { IsFit self.old }
         requires ids { self.old.last + 64 < 2 ^ 63 }
-        ensures brought { DropsAhead H.told i.0 (place_of self.old) (place_of self.new) self.old.holders self.old.live self.new.live (H.state host.old) (H.state host.new) }
+        ensures brought { (gone : Members) × ((j : ℕ) → has gone j ≡ (j == i.0)) × DropsAhead H.told gone (place_of self.old) (place_of self.new) self.old.holders self.old.live self.new.live (H.state host.old) (H.state host.new) }
         ensures rose { self.old.last < self.new.last }
         ensures last { self.new.last + 2 * count_of self.new.live ≤ self.old.last + 2 * count_of self.old.live }
         ensures left { OnErr result ((j : ℕ) → has self.new.live j ≡ false) }
@@ -237,7 +236,26 @@ impl JournalSet {
         ensures kept { (self.new.holders ≡ self.old.holders) × (self.new.header ≡ self.old.header) × (self.new.going ≡ self.old.going) × (self.new.buffer.items ≡ []) × IsFit self.new }
         ensures below { (j : ℕ) → has self.new.live j ≡ true → j < (H.state host.new).count }
     {
-        self.live = self.live.without(i);
+        self.drop_dirs(host, DirSet::none().with(i))
+    }
+
+    /// Drops these directories, at least one of which is live, without touching them. The rest rolls, or begins a segment and ends it
+    /// where none is in progress, so that each of those ends strictly below.
+    pub fn drop_dirs<H: Host>(&mut self, host: &mut H, gone: DirSet) -> Result<(), NoneLeft>
+        requires below { (j : ℕ) → has self.old.live j ≡ true → j < (H.state host.old).count }
+        requires live { (j : ℕ) × (has gone j ≡ true) × (has self.old.live j ≡ true) }
+        requires empty { self.old.buffer.items ≡ [] }
+        requires fit { IsFit self.old }
+        requires ids { self.old.last + 64 < 2 ^ 63 }
+        ensures brought { DropsAhead H.told gone (place_of self.old) (place_of self.new) self.old.holders self.old.live self.new.live (H.state host.old) (H.state host.new) }
+        ensures rose { self.old.last < self.new.last }
+        ensures last { self.new.last + 2 * count_of self.new.live ≤ self.old.last + 2 * count_of self.old.live }
+        ensures left { OnErr result ((j : ℕ) → has self.new.live j ≡ false) }
+        ensures some { OnOk result ((j : ℕ) × (has self.new.live j ≡ true)) }
+        ensures kept { (self.new.holders ≡ self.old.holders) × (self.new.header ≡ self.old.header) × (self.new.going ≡ self.old.going) × (self.new.buffer.items ≡ []) × IsFit self.new }
+        ensures below { (j : ℕ) → has self.new.live j ≡ true → j < (H.state host.new).count }
+    {
+        self.live = self.live.and_not(gone);
         self.rounds(host)
     }
 
