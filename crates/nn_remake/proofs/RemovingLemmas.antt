@@ -10,7 +10,10 @@ use Rattle.nn_host.specs.Moments.{State, disk_at, faults_at}
 use Rattle.nn_host.specs.Calls.{Called}
 use Rattle.nn_host.specs.Runs.{OnlyAt}
 use Rattle.nn_host.proofs.FilesLemmas.{there, beside, elsewhere}
+use Rattle.nn_host.proofs.RunsLemmas.{throughout_refl}
 use Rattle.nn_host.proofs.WorkLemmas.{work_refl, work_more}
+use Rattle.nn_small.specs.Failure.{EndsByFailure}
+use Rattle.nn_small.proofs.FailureLemmas.{failed_once, failed_then}
 use Rattle.nn_remake.specs.Removing.{IsWithout, IsCutBack, WasWithout}
 
 module _ {A : Type 0} where
@@ -39,6 +42,10 @@ module _ {A : Type 0} where
       front : (n : FileName) → n ≡ name → Contains (name ∷ gone) n
       front n same = subst (λ (m : FileName). Contains (name ∷ gone) m) (sym same) (Contains-append_left (name ∷ []) gone name (Contains-push [] name))
 
+-- nothing was called yet
+pub failed_none : {told : Type 0} {i : ℕ} {a : State} → EndsByFailure told i a a
+failed_none = throughout_refl (λ tells rose. refl)
+
 -- so far the last of the names are gone
 pub record Removing (told : Type 0) (names left : List FileName) (i : ℕ) (start now : State) : Type 0 where
   pub gone : List FileName
@@ -46,6 +53,7 @@ pub record Removing (told : Type 0) (names left : List FileName) (i : ℕ) (star
   pub run : OnlyAt told i start now (IsCutBack names (disk_at start i))
   pub disk : told → IsWithout gone (disk_at start i) (disk_at now i)
   pub reads : told → IsWithout gone (start.reads i) (now.reads i)
+  pub still : EndsByFailure told i start now
   pub counted : faults_at now i ≡ faults_at start i
 
 pub removing_none : {told : Type 0} (names : List FileName) (i : ℕ) (a : State) → Removing told names names i a a
@@ -55,6 +63,7 @@ removing_none names i a = record {
   run = work_refl (λ tells. record { left = names; gone = []; split = sym (append-nil names); without = without_none (disk_at a i) });
   disk = λ tells. without_none (disk_at a i);
   reads = λ tells. without_none (a.reads i);
+  still = failed_none;
   counted = refl;
 }
 
@@ -70,6 +79,9 @@ module _ {told : Type 0} {names left : List FileName} {i : ℕ} {a b : State} (r
     without = subst (IsWithout (name ∷ so_far.gone) (disk_at a i)) (sym made) (without_more so_far.gone name (disk_at a i) (disk_at b i) (so_far.disk tells));
   })
 
+  pub removing_still : {T E : Type 0} {c : State} {result : Result T E} → Called told i (RemoveFile Current name) b c result → EndsByFailure told i a c
+  removing_still called = failed_then so_far.counted so_far.still (failed_once called)
+
   pub removing_more : {T E : Type 0} {v : T} {c : State} → Called {E = E} told i (RemoveFile Current name) b c (Ok v) → Removing told names rest i a c
   removing_more called = record {
     gone = name ∷ so_far.gone;
@@ -77,6 +89,7 @@ module _ {told : Type 0} {names left : List FileName} {i : ℕ} {a b : State} (r
     run = removing_run called;
     disk = λ tells. subst (IsWithout (name ∷ so_far.gone) (disk_at a i)) (sym (called.effect tells).ok.disk) (without_more so_far.gone name (disk_at a i) (disk_at b i) (so_far.disk tells));
     reads = λ tells. subst (IsWithout (name ∷ so_far.gone) (a.reads i)) (sym (called.effect tells).ok.reads) (without_more so_far.gone name (a.reads i) (b.reads i) (so_far.reads tells));
+    still = removing_still called;
     counted = called.counted.ok ∙ so_far.counted;
   }
 

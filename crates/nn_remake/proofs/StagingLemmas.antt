@@ -13,6 +13,8 @@ use Rattle.nn_host.specs.Calls.{Called, Done}
 use Rattle.nn_host.specs.Runs.{OnlyAt}
 use Rattle.nn_host.proofs.FilesLemmas.{there, again}
 use Rattle.nn_host.proofs.WorkLemmas.{work_once, work_more}
+use Rattle.nn_small.specs.Failure.{EndsByFailure}
+use Rattle.nn_small.proofs.FailureLemmas.{failed_once, failed_then}
 use Rattle.nn_small.proofs.WriteLemmas.{made, filled}
 use Rattle.nn_remake.specs.Publishing.{BesideFile, WasFilled, WasStaged}
 use Rattle.nn_remake.proofs.BesideLemmas.{file_refl, file_call}
@@ -67,6 +69,7 @@ pub record Filling (told : Type 0) (id : ℕ) (whole : List ℕ) (i : ℕ) (old 
   pub held : Holds hasher so_far
   pub filled : told → (disk_at old i).has Current ≡ true → WasFilled id so_far i old new
   pub work : OnlyAt told i old new (BesideFile (Ckpt id) (disk_at old i))
+  pub still : EndsByFailure told i old new
   pub counted : faults_at new i ≡ faults_at old i
 
 module _ {T E told : Type 0} {id : ℕ} {whole : List ℕ} {i : ℕ} where
@@ -77,6 +80,7 @@ module _ {T E told : Type 0} {id : ℕ} {whole : List ℕ} {i : ℕ} where
     held = held;
     filled = λ tells has. none_filled (lawful tells) has (called.effect tells).ok;
     work = work_made called;
+    still = failed_once called;
     counted = called.counted.ok;
   }
 
@@ -88,6 +92,7 @@ module _ {T E told : Type 0} {id : ℕ} {whole : List ℕ} {i : ℕ} where
     held = held f.so_far f.held;
     filled = λ tells has. subst (λ (l : List ℕ). WasFilled id (f.so_far ++ l) i a c) same (more_filled (f.filled tells has) (called.effect tells).ok);
     work = work_added f.work called;
+    still = failed_then f.counted f.still (failed_once called);
     counted = called.counted.ok ∙ f.counted;
   }
 

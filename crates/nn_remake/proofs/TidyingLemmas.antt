@@ -1,5 +1,5 @@
 -- What tidying does to which files, and what is left of a folder that was tidied.
-use Rattle.std.proofs.Common.{◌≡◌, ◌≢◌, ◌⊎◌, inl, inr, ⊎_elim, ℕ, ◌<◌, ◌≤◌, ℤ, Bool, true, false, nat_lt, Option, Some, None, refl, sym, ◌∙◌, ap, subst, arith}
+use Rattle.std.proofs.Common.{◌≡◌, inl, inr, ⊎_elim, ℕ, ℤ, Bool, true, false, nat_lt, None, refl, sym, ◌∙◌, ap, subst, arith}
 use Rattle.std.proofs.lemmas.Bool.{lt-ltb, ltb-true}
 use Rattle.std.proofs.lemmas.Option.{none-some}
 use Rattle.nn_base.specs.declared.sub.Sub.TheVariants.{Current}
@@ -11,7 +11,7 @@ use Rattle.nn_record.specs.declared.transaction.Record.{Record}
 use Rattle.nn_chain.specs.Folder.{Folder, folder_at}
 use Rattle.nn_chain.specs.Records.{first_in, HoldsRecord, HasNoneAfter}
 use Rattle.nn_remake.specs.Removing.{is_later_image}
-use Rattle.nn_remake.specs.Tidying.{is_unnamed, IsBeyond, Goes, IsTidying, IsTidied, IsTidy}
+use Rattle.nn_remake.specs.Tidying.{is_unnamed, Goes, IsTidying, IsTidied, IsTidy}
 
 -- two names of one segment differ
 pub not_progress : (span : ℕ × ℕ) (first : ℕ) → name.Edits span ≡ name.InProgress first → ⊥

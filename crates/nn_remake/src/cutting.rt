@@ -4,6 +4,7 @@ ghost use Rattle.nn_base.specs.declared.sub.Sub.TheVariants.{Current};
 ghost use Rattle.nn_host.specs.Listing.{IsListing};
 ghost use Rattle.nn_host.specs.Moments.{disk_at};
 ghost use Rattle.nn_host.specs.Runs.{OnlyAt};
+ghost use Rattle.nn_small.specs.Failure.{EndsByFailure};
 ghost use Rattle.nn_remake.specs.Counts.{IsCountedBy};
 ghost use Rattle.nn_remake.specs.Cutting.{IsCutting, WasCutDown};
 
@@ -37,6 +38,7 @@ pub fn names_of<H: Host>(alloc: Global, host: &mut H, i: DirNo) -> Result<Vec<Fi
     ensures ok { H.told → IfOk result (λ names. IsListing ((H.state host.old).reads i.0) Current names.items) }
     ensures kept { H.told → OnOk result ((H.state host.new).reads i.0 ≡ (H.state host.old).reads i.0) }
     ensures any_moment { OnlyAt H.told i.0 (H.state host.old) (H.state host.new) (λ d. d ≡ disk_at (H.state host.old) i.0) }
+    ensures still { EndsByFailure H.told i.0 (H.state host.old) (H.state host.new) }
     ensures cause { IsCountedBy i.0 (H.state host.old) (H.state host.new) result }
 {
     let mut names = Vec::new(alloc);

@@ -16,6 +16,6 @@ pub use clearing::{clear, clear_unformatted};
 pub use cutting::names_of;
 pub use fault::MakeFault;
 pub use making::make;
-pub use publishing::publish;
+pub use publishing::{publish, replace_image};
 pub use removing::remove_from_end;
 pub use topping::top_up;

@@ -5,6 +5,7 @@ ghost use Rattle.nn_base.specs.declared.file_name.FileName.TheVariants.{Image};
 ghost use Rattle.nn_host.specs.Moments.{disk_at};
 ghost use Rattle.nn_host.specs.Calls.{IsCounted};
 ghost use Rattle.nn_host.specs.Runs.{OnlyAt};
+ghost use Rattle.nn_small.specs.Failure.{EndsByFailure};
 ghost use Rattle.nn_tree.specs.Imaged.{IsImaged};
 ghost use Rattle.nn_chain.specs.Folder.{folder_at};
 ghost use Rattle.nn_chain.specs.Images.{HasIntact, IsUnsound};
@@ -74,7 +75,11 @@ fn has_intact<H: Host, T: Tree>(
     }
 }
 
-fn replace_image<H: Host, T: Tree>(
+/// Puts the image of the namespace, as of this transaction, into `current`, in place of whatever stands under its name.
+///
+/// Nothing is read. The version is what VERSION of the folder says. After an `Err` the image may be there, or none. Without
+/// `current` there is no place for it: nothing is written, which is no fault.
+pub fn replace_image<H: Host, T: Tree>(
     alloc: Global,
     host: &mut H,
     i: DirNo,
@@ -86,6 +91,7 @@ fn replace_image<H: Host, T: Tree>(
     requires imaged { IsImaged (T.meaning tree.now) }
     ensures ok { H.told → (disk_at (H.state host.old) i.0).has Current ≡ true → OnOk result (WasWritten version.now id (T.meaning tree.now) i.0 (H.state host.old) (H.state host.new)) }
     ensures any_moment { OnlyAt H.told i.0 (H.state host.old) (H.state host.new) (IsPublishing version.now id (T.meaning tree.now) (disk_at (H.state host.old) i.0)) }
+    ensures still { EndsByFailure H.told i.0 (H.state host.old) (H.state host.new) }
     ensures cause { IsCountedBy i.0 (H.state host.old) (H.state host.new) result }
 {
     remove_image(host, i, id)?;
@@ -97,6 +103,7 @@ fn remove_image<H: Host>(host: &mut H, i: DirNo, id: Txid) -> Result<(), Failed>
     requires below { i.0 < (H.state host.old).count }
     ensures ok { H.told → OnOk result (WasRemoved id i.0 (H.state host.old) (H.state host.new)) }
     ensures any_moment { OnlyAt H.told i.0 (H.state host.old) (H.state host.new) (IsRemoving id (disk_at (H.state host.old) i.0)) }
+    ensures still { EndsByFailure H.told i.0 (H.state host.old) (H.state host.new) }
     ensures cause { IsCounted i.0 (H.state host.old) (H.state host.new) result }
 {
     host.remove_file(i, Sub::Current, FileName::Image(id))?;
@@ -117,6 +124,7 @@ pub fn write_image<H: Host, T: Tree>(
     requires imaged { IsImaged (T.meaning tree.now) }
     ensures ok { H.told → (disk_at (H.state host.old) i.0).has Current ≡ true → OnOk result (WasWritten version.now id (T.meaning tree.now) i.0 (H.state host.old) (H.state host.new)) }
     ensures any_moment { OnlyAt H.told i.0 (H.state host.old) (H.state host.new) (IsPublishing version.now id (T.meaning tree.now) (disk_at (H.state host.old) i.0)) }
+    ensures still { EndsByFailure H.told i.0 (H.state host.old) (H.state host.new) }
     ensures cause { IsCountedBy i.0 (H.state host.old) (H.state host.new) result }
 {
     let digest = stage(alloc, host, i, tree, id, version)?;

@@ -4,6 +4,7 @@ ghost use Rattle.std.specs.List.{filter};
 ghost use Rattle.nn_host.specs.Moments.{disk_at};
 ghost use Rattle.nn_host.specs.Calls.{IsCounted};
 ghost use Rattle.nn_host.specs.Runs.{OnlyAt};
+ghost use Rattle.nn_small.specs.Failure.{EndsByFailure};
 ghost use Rattle.nn_remake.specs.Removing.{is_segment as is_segment_name, is_later_image as is_later_image_name, IsCutBack, WasWithout};
 
 use nn_base::{DirNo, FileName, NoMemory, Sub, Txid};
@@ -20,6 +21,7 @@ pub fn remove_from_end<H: Host>(
     requires below { i.0 < (H.state host.old).count }
     ensures ok { H.told → OnOk result (WasWithout names.items i.0 (H.state host.old) (H.state host.new)) }
     ensures any_moment { OnlyAt H.told i.0 (H.state host.old) (H.state host.new) (IsCutBack names.items (disk_at (H.state host.old) i.0)) }
+    ensures still { EndsByFailure H.told i.0 (H.state host.old) (H.state host.new) }
     ensures cause { IsCounted i.0 (H.state host.old) (H.state host.new) result }
 {
     'names: while let Some(name) = names.pop() {

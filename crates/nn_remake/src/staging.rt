@@ -6,6 +6,7 @@ ghost use Rattle.nn_base.specs.declared.file_name.FileName.TheVariants.{Ckpt, Md
 ghost use Rattle.nn_host.specs.Moments.{disk_at};
 ghost use Rattle.nn_host.specs.Calls.{IsCounted};
 ghost use Rattle.nn_host.specs.Runs.{OnlyAt};
+ghost use Rattle.nn_small.specs.Failure.{EndsByFailure};
 ghost use Rattle.nn_marks.specs.Digest.{md5_text_of};
 ghost use Rattle.nn_small.specs.Small.{OldOrNew, Written};
 ghost use Rattle.nn_tree.specs.Imaged.{IsImaged};
@@ -38,6 +39,7 @@ pub fn stage<H: Host, T: Tree>(
     ensures digest { IfOk result (λ digest. digest ≡ md5 (image_under version.now id (T.meaning tree.now))) }
     ensures ok { H.told → (disk_at (H.state host.old) i.0).has Current ≡ true → OnOk result (WasStaged id (image_under version.now id (T.meaning tree.now)) i.0 (H.state host.old) (H.state host.new)) }
     ensures any_moment { OnlyAt H.told i.0 (H.state host.old) (H.state host.new) (BesideFile (Ckpt id) (disk_at (H.state host.old) i.0)) }
+    ensures still { EndsByFailure H.told i.0 (H.state host.old) (H.state host.new) }
     ensures cause { IsCountedBy i.0 (H.state host.old) (H.state host.new) result }
 {
     let mut saver = save(alloc, tree, id, version.namespace, version.layout)?;
@@ -60,6 +62,7 @@ fn fill<H: Host, T: Tree>(
     ensures digest { IfOk result (λ digest. digest ≡ md5 (left saver.old (T.meaning tree.now) (T.has tree.now) (T.place tree.now))) }
     ensures ok { H.told → (disk_at (H.state host.old) i.0).has Current ≡ true → OnOk result (WasFilled id (left saver.old (T.meaning tree.now) (T.has tree.now) (T.place tree.now)) i.0 (H.state host.old) (H.state host.new)) }
     ensures any_moment { OnlyAt H.told i.0 (H.state host.old) (H.state host.new) (BesideFile (Ckpt id) (disk_at (H.state host.old) i.0)) }
+    ensures still { EndsByFailure H.told i.0 (H.state host.old) (H.state host.new) }
     ensures cause { IsCountedBy i.0 (H.state host.old) (H.state host.new) result }
 {
     host.make_file(i, Sub::Current, FileName::Ckpt(id))?;
@@ -82,6 +85,7 @@ pub fn write_digest<H: Host>(
     requires below { i.0 < (H.state host.old).count }
     ensures ok { H.told → (disk_at (H.state host.old) i.0).has Current ≡ true → OnOk result (Written i.0 Current (Md5Tmp id) (Md5File id) (md5_text_of digest.now id) (H.state host.old) (H.state host.new)) }
     ensures any_moment { OnlyAt H.told i.0 (H.state host.old) (H.state host.new) (OldOrNew Current (Md5Tmp id) (Md5File id) (md5_text_of digest.now id) (disk_at (H.state host.old) i.0)) }
+    ensures still { EndsByFailure H.told i.0 (H.state host.old) (H.state host.new) }
     ensures cause { IsCounted i.0 (H.state host.old) (H.state host.new) result }
 {
     let mut text = [0; 80];

@@ -1,4 +1,5 @@
 use Rattle.nn_remake.proofs.PublishingLemmas.{work_staged, work_summed, work_named, was_written, disk_ready, reads_ready, still_there}
+use Rattle.nn_small.proofs.FailureLemmas.{failed_once, failed_then}
 use Rattle.nn_remake.proofs.publishing.write_image.Goals as goal
 
 pub returns-in_err-digest-clause-any_moment : goal.returns-in_err-digest-clause-any_moment
@@ -26,3 +27,12 @@ returns-clause-ok g c = λ tells has.
     let staged = c.in_ok-digest.ensures.ok tells has in
     let written = c.in_ok-write_digest.ensures.ok tells (still_there has staged) in
     was_written _ c.in_ok-digest.ensures.image (disk_ready c.in_ok-digest.ensures.digest staged written) (reads_ready c.in_ok-digest.ensures.digest staged written) (c.in_ok-rename_file.ensures.effect tells).ok
+
+pub returns-in_err-write_digest-clause-still : goal.returns-in_err-write_digest-clause-still
+returns-in_err-write_digest-clause-still g c = failed_then c.in_ok-digest.ensures.cause c.in_ok-digest.ensures.still c.in_err-write_digest.ensures.still
+
+pub returns-in_err-rename_file-clause-still : goal.returns-in_err-rename_file-clause-still
+returns-in_err-rename_file-clause-still g c = failed_then c.in_ok-digest.ensures.cause c.in_ok-digest.ensures.still (failed_then c.in_ok-write_digest.ensures.cause.ok c.in_ok-write_digest.ensures.still (failed_once c.in_err-rename_file.ensures))
+
+pub returns-clause-still : goal.returns-clause-still
+returns-clause-still g c = failed_then c.in_ok-digest.ensures.cause c.in_ok-digest.ensures.still (failed_then c.in_ok-write_digest.ensures.cause.ok c.in_ok-write_digest.ensures.still (failed_once c.in_ok-rename_file.ensures))
