@@ -1,0 +1,12 @@
+use Rattle.std.proofs.Common.{length}
+use Rattle.nn_tree.specs.Links.{place_of}
+use Rattle.nn_arena.specs.Places.{links_of}
+use Rattle.nn_arena.specs.Totals.{less}
+use Rattle.nn_arena.proofs.UpLemmas.{Climbs}
+use Rattle.nn_arena.proofs.climb.take_up.Given as goal
+
+abbrev pub invariant-climb : goal.invariant-climb
+invariant-climb l = Climbs l.fn.places l.places l.fn.at l.at (less l.gone)
+
+abbrev pub decreases-climb : goal.decreases-climb
+decreases-climb l = length (place_of (links_of l.fn.places) l.at)
