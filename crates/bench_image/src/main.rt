@@ -6,10 +6,11 @@
 ghost use Rattle.std.specs.Prelude.{◌≡◌, ◌≤◌, ◌^◌, true, [], IfSome};
 ghost use Rattle.nn_tree.specs.Imaged.{IsImaged};
 
+use nn_arena::ArenaTree;
 use nn_base::limits::LAYOUT;
 use nn_base::{NoMemory, Path};
 use nn_image::{Loaded, load, save};
-use nn_tree::{PlainTree, Spot, Tree, Walk, next_below};
+use nn_tree::{Spot, Tree, Walk, next_below};
 use std::alloc::Global;
 use std::process::ExitCode;
 use std::time::{CpuClock, Duration};
@@ -73,7 +74,7 @@ fn each(took: Duration, nodes: u64) -> u128 {
 
 fn measure(rt: &(impl CpuClock + Print), alloc: Global, bytes: &[u8]) -> io::Result<()> {
     let start = rt.process_cpu_time()?;
-    let loaded = match load::<PlainTree>(alloc, bytes, LAYOUT) {
+    let loaded = match load::<ArenaTree>(alloc, bytes, LAYOUT) {
         Ok(loaded) => loaded,
         Err(fault) => return println!(rt; "no image: {fault}"),
     };

@@ -5,13 +5,14 @@
 
 ghost use Rattle.std.specs.Prelude.{◌≡◌, IfOk, length};
 
+use nn_arena::ArenaTree;
 use nn_base::{DirNo, FileName, NoMemory, Sub};
 use nn_files::FileHost;
 use nn_host::Host;
 use nn_load::load_dir;
 use nn_marks::{Version, version_read};
 use nn_small::read_all;
-use nn_tree::{PlainTree, Tree};
+use nn_tree::Tree;
 use std::alloc::Global;
 use std::process::ExitCode;
 use std::rt::Files;
@@ -43,7 +44,7 @@ fn load<H: Host>(alloc: Global, host: &mut H) -> Option<(u64, u64)>
     requires { (H.state host.old).count ≡ 1 }
 {
     let version = version_of(alloc, host)?;
-    match load_dir::<H, PlainTree>(alloc, host, DIR, Sub::Current, &version) {
+    match load_dir::<H, ArenaTree>(alloc, host, DIR, Sub::Current, &version) {
         Ok(loaded) => Some((loaded.id.0, loaded.tree.counters().inode)),
         Err(_) => None,
     }

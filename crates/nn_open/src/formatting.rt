@@ -7,10 +7,11 @@ ghost use Rattle.nn_open.specs.Answers.{AllFresh, AllFormatted, IsRefused, EachF
 
 use crate::make::make_all;
 use crate::survey::survey;
+use nn_arena::ArenaTree;
 use nn_host::Host;
 use nn_marks::Version;
 use nn_pick::OpenFault;
-use nn_tree::{PlainTree, Tree};
+use nn_tree::Tree;
 use std::alloc::Global;
 
 /// Makes a new namespace in each name directory, in order: `current` with an image of the empty namespace, `seen_txid` of the
@@ -33,7 +34,7 @@ pub fn format<H: Host>(alloc: Global, host: &mut H, version: &Version) -> Result
     ensures quiet { Unspoken H.told (H.state host.old) (H.state host.new) }
     ensures cause { IsCountedBy (H.state host.old) (H.state host.new) result }
 {
-    let Ok(tree) = PlainTree::new(alloc) else {
+    let Ok(tree) = ArenaTree::new(alloc) else {
         return Err(OpenFault::Memory);
     };
     if let Some(refusal) = survey(host)? {

@@ -15,13 +15,14 @@ ghost use Rattle.nn_serve.specs.Turns.{SaysStarted};
 
 use crate::ending::{RunEnd, unstarted};
 use crate::serving::serve;
+use nn_arena::ArenaTree;
 use nn_base::{NoMemory, Txid};
 use nn_begin::start;
 use nn_core::Core;
 use nn_host::{Failed, Host, Source};
 use nn_journal::Opened;
 use nn_reader::LineReader;
-use nn_tree::{PlainTree, Tree};
+use nn_tree::Tree;
 use std::alloc::Global;
 
 /// Runs the script of a source over all directories of the host: brings them to one namespace, says `started N`, and answers
@@ -39,7 +40,7 @@ pub fn run<H: Host, S: Source>(alloc: Global, host: &mut H, source: &mut S, at: 
         Ok(reader) => reader,
         Err(NoMemory) => return RunEnd::Memory,
     };
-    let begun: Begun<PlainTree> = match begin(alloc, host, at) {
+    let begun: Begun<ArenaTree> = match begin(alloc, host, at) {
         Ok(begun) => begun,
         Err(end) => return end,
     };

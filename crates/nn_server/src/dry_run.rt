@@ -9,10 +9,11 @@ ghost use Rattle.nn_server.specs.Codes.{dry_status};
 ghost use Rattle.nn_server.specs.Dry.{DryRan, dry_end};
 
 use crate::session::{Session, Unsaid};
+use nn_arena::ArenaTree;
 use nn_base::NoMemory;
 use nn_host::{Failed, Host, Source};
 use nn_reader::{LineReader, Next};
-use nn_tree::{PlainTree, Tree};
+use nn_tree::Tree;
 use std::alloc::Global;
 
 /// How a run over a script ends.
@@ -46,7 +47,7 @@ pub fn dry<H: Host, S: Source>(alloc: Global, host: &mut H, source: &mut S) -> D
         Ok(reader) => reader,
         Err(NoMemory) => return DryEnd::Memory,
     };
-    let mut session: Session<PlainTree> = match Session::new(alloc) {
+    let mut session: Session<ArenaTree> = match Session::new(alloc) {
         Ok(session) => session,
         Err(NoMemory) => return DryEnd::Memory,
     };
