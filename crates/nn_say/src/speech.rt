@@ -43,8 +43,8 @@ impl Speech {
         host.say(&self.line)
     }
 
-    // Nothing waits.
-    pub(crate) fn begin(&mut self)
+    /// Begins a text that goes out in pieces: nothing waits.
+    pub fn begin(&mut self)
         ensures { self.new.waiting.items ≡ [] }
     {
         self.waiting.clear();
@@ -84,7 +84,8 @@ impl Speech {
         put(host, &self.line, &mut self.waiting)
     }
 
-    pub(crate) fn put_bytes<H: Host>(&mut self, host: &mut H, bytes: &[u8]) -> Result<(), Failed>
+    /// Puts at most 768 bytes of the text behind those that wait. Each 65,536 bytes of the text go out in a call of their own.
+    pub fn put_bytes<H: Host>(&mut self, host: &mut H, bytes: &[u8]) -> Result<(), Failed>
         requires { length bytes.now ≤ 768 }
         ensures { Puts H.told (H.state host.old) (H.state host.new) self.old.waiting.items
             bytes.now self.new.waiting.items result }
@@ -102,8 +103,8 @@ impl Speech {
         put(host, &self.line, &mut self.waiting)
     }
 
-    // Says what waits.
-    pub(crate) fn end<H: Host>(&mut self, host: &mut H) -> Result<(), Failed>
+    /// Ends the text: says what waits, if anything does.
+    pub fn end<H: Host>(&mut self, host: &mut H) -> Result<(), Failed>
         ensures { Says H.told (H.state host.old) (H.state host.new) self.old.waiting.items result }
     {
         if self.waiting.is_empty() {
