@@ -16,8 +16,8 @@ use Rattle.nn_arena.specs.declared.place.Entry.{Entry}
 use Rattle.nn_arena.specs.declared.place.Place.{Place}
 use Rattle.nn_arena.specs.Places.{name_of, entry_at, links_of}
 use Rattle.nn_arena.specs.declared.gap.Gap.{Gap}
-use Rattle.nn_arena.specs.Children.{AreLinked, IsGap, bound_of}
-use Rattle.nn_arena.proofs.PlaceLemmas.{live_entry, entry_within}
+use Rattle.nn_arena.specs.Children.{AreLinked, IsGap, IsWalked, bound_of}
+use Rattle.nn_arena.proofs.PlaceLemmas.{live_entry, entry_named, entry_within}
 use Rattle.nn_arena.proofs.SiblingLemmas.{later_is, later_so, later_too, later_than, not_itself, not_below, above_both, yes_no, isnt}
 
 -- ---- how many children are later than a bound
@@ -51,23 +51,28 @@ count_less g a y x less (suc n) k lt later past = elim (cases_eq k n) as (λ _. 
 
 -- ---- one step of the walk
 
--- what holds as the walk goes on: the name of the last child that was passed is below the name sought
-pub record Walked (ps : List Place) (a : ℕ) (name : Bytes) (before after : Option ℕ) : Type 0 where
-  pub passed : IfSome before (λ i. (is_later (links_of ps) a [] i ≡ true) × (name_cmp (name_at (links_of ps) i) name ≡ Less))
-  pub least : IsLeast (links_of ps) a (bound_of (links_of ps) before) (length ps) after
-
-pub walk_start : (ps : List Place) (a : ℕ) (name : Bytes) (e : Entry) → AreLinked ps → entry_at ps a ≡ Some e → Walked ps a name None e.first
+pub walk_start : (ps : List Place) (a : ℕ) (name : Bytes) (e : Entry) → AreLinked ps → entry_at ps a ≡ Some e → IsWalked ps a name None e.first
 walk_start ps a name e linked is = record { passed = tt; least = linked.first a e is }
 
-module _ (ps : List Place) (a : ℕ) (name : Bytes) (before : Option ℕ) (i : ℕ) (k : Entry) (linked : AreLinked ps) (w : Walked ps a name before (Some i)) (is : entry_at ps i ≡ Some k) where
+-- behind a child that is below the name
+pub walk_from : (ps : List Place) (a : ℕ) (name : Bytes) (i : ℕ) (k : Entry) → AreLinked ps → (is_later (links_of ps) a [] i ≡ true) × (name_cmp (name_at (links_of ps) i) name ≡ Less) → entry_at ps i ≡ Some k → IsWalked ps a name (Some i) k.next
+walk_from ps a name i k linked passed is =
+    let c = later_is (links_of ps) a [] i passed.0 in
+    let parent : k.parent ≡ a = ap (λ (l : Link). l.parent) (some_is _ _ (sym (live_entry ps i k is) ∙ c.live)) ∙ c.parent in
+    record { passed = passed; least = by i refl c.below_root parent }
+  where
+    by : (j : ℕ) → j ≡ i → i ≢ 0 → k.parent ≡ a → IsLeast (links_of ps) a (name_at (links_of ps) i) (length ps) k.next
+    by zero same root parent = absurd (root (sym same))
+    by (suc j) same root parent =
+        subst (λ x. IsLeast (links_of ps) a x (length ps) k.next) (sym (entry_named ps i k is))
+        (subst (λ a. IsLeast (links_of ps) a (name_of k) (length ps) k.next) parent (linked.next j k (ap (entry_at ps) same ∙ is)))
+
+module _ (ps : List Place) (a : ℕ) (name : Bytes) (before : Option ℕ) (i : ℕ) (k : Entry) (linked : AreLinked ps) (w : IsWalked ps a name before (Some i)) (is : entry_at ps i ≡ Some k) where
   abbrev g : Links
   g = links_of ps
 
   named : name_at g i ≡ name_of k
   named = ap (λ o. option_map_or (λ (l : Link). l.name) o []) (live_entry ps i k is)
-
-  parent : k.parent ≡ a
-  parent = let c = later_is g a (bound_of g before) i w.least.0 in ap (λ (l : Link). l.parent) (some_is _ _ (sym (live_entry ps i k is) ∙ c.live)) ∙ c.parent
 
   pub bound_below : name_cmp (bound_of g before) (name_at g i) ≡ Less
   bound_below = let c = later_is g a (bound_of g before) i w.least.0 in c.above
@@ -82,20 +87,8 @@ module _ (ps : List Place) (a : ℕ) (name : Bytes) (before : Option ℕ) (i : �
           let c = later_is g a [] b p.0 in
           later_than g a [] (name_at g b) i later (above_both [] (name_at g b) (name_at g i) c.above less)
 
-  pub walk_on : name_cmp (name_of k) name ≡ Less → Walked ps a name (Some i) k.next
-  walk_on less = record {
-    passed = (later_none, ap (λ x. name_cmp x name) named ∙ less);
-    least = by i refl;
-  }
-    where
-      root : i ≢ 0
-      root = let c = later_is g a (bound_of g before) i w.least.0 in c.below_root
-
-      by : (j : ℕ) → j ≡ i → IsLeast g a (name_at g i) (length ps) k.next
-      by zero same = absurd (root (sym same))
-      by (suc j) same =
-          subst (λ x. IsLeast g a x (length ps) k.next) (sym named)
-          (subst (λ a. IsLeast g a (name_of k) (length ps) k.next) parent (linked.next j k (ap (entry_at ps) same ∙ is)))
+  pub walk_on : name_cmp (name_of k) name ≡ Less → IsWalked ps a name (Some i) k.next
+  walk_on less = walk_from ps a name i k linked (later_none, ap (λ x. name_cmp x name) named ∙ less) is
 
   pub walk_less : later_count g a (name_at g i) (length ps) < later_count g a (bound_of g before) (length ps)
   walk_less = count_less g a (bound_of g before) (name_at g i) bound_below (length ps) i (entry_within ps i k is) w.least.0

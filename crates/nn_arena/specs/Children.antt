@@ -31,6 +31,11 @@ abbrev pub bound_of : Links → Option ℕ → Bytes
 bound_of g None = []
 bound_of g (Some i) = name_at g i
 
+-- what holds as a walk goes on: the name of the last child that was passed is below the name sought, and all behind it are ahead
+pub record IsWalked (ps : List Place) (a : ℕ) (name : Bytes) (before after : Option ℕ) : Type 0 where
+  pub passed : IfSome before (λ i. (is_later (links_of ps) a [] i ≡ true) × (name_cmp (name_at (links_of ps) i) name ≡ Less))
+  pub least : IsLeast (links_of ps) a (bound_of (links_of ps) before) (length ps) after
+
 -- where a name belongs among the children of a: behind the last one with a name below it, and before the first one of the others
 pub record IsGap (ps : List Place) (a : ℕ) (name : Bytes) (gap : Gap) : Type 0 where
   pub before : IfSome gap.before (λ i. (is_later (links_of ps) a [] i ≡ true) × (name_cmp (name_at (links_of ps) i) name ≡ Less))

@@ -11,6 +11,7 @@ ghost use Rattle.nn_arena.specs.Places.{links_of, entry_at, AreAlikeBut};
 ghost use Rattle.nn_arena.specs.Children.{AreLinked, AreLinked-prop};
 ghost use Rattle.nn_arena.specs.FreeList.{IsFreeList};
 
+use crate::hints::Hints;
 use crate::link;
 use crate::place::{Entry, Place, entry_in};
 use nn_base::{Name, NoMemory};
@@ -26,6 +27,7 @@ pub(crate) struct Arena {
     pub(crate) free: Option<usize>,
     /// How many blocks all files have.
     pub(crate) blocks: u64,
+    pub(crate) hints: Hints,
     ghost tree: { IsTree (links_of places.items) },
     ghost linked: { AreLinked places.items } by { AreLinked-prop places.items },
     ghost free_list: { ∥ IsFreeList places.items free ∥₁ },
@@ -39,12 +41,15 @@ impl Arena {
         ensures nodes { IfOk result (λ a. nodes_of (links_of a.places.items) ≡ map.insert map.empty [] root_node) }
         ensures usages { IfOk result (λ a. (i : ℕ) (e : _) → entry_at a.places.items i ≡ Some e → e.usage ≡ record { names = 1; space = 0 }) }
     {
+        let mut hints = Hints::new(alloc);
+        hints.grow()?;
         let mut places = Vec::new(alloc);
         places.push(Place::Used(Entry::root()))?;
         Ok(Arena {
             places,
             free: None,
             blocks: 0,
+            hints,
         })
     }
 
@@ -66,6 +71,7 @@ impl Arena {
             return Ok(());
         }
         let at = self.places.len();
+        self.hints.grow()?;
         self.places.push(Place::Free { next: None })?;
         self.free = Some(at);
         Ok(())
@@ -98,7 +104,8 @@ impl Arena {
         ensures was_free { entry_at self.old.places.items result ≡ None }
     {
         // That the name is one is told by its bytes.
-        let _bytes = name.bytes();
+        let bytes = name.bytes();
+        let near = self.hints.near(&self.places, parent, bytes);
         let at = match self.free {
             Some(at) => at,
             None => unreachable!(),
@@ -113,7 +120,9 @@ impl Arena {
             node,
             usage,
         };
-        link::put(&mut self.places, at, new);
+        link::put(&mut self.places, at, new, near);
+        self.hints.clear(at);
+        self.hints.put(&self.places, at);
         at
     }
 }

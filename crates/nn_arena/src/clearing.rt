@@ -13,8 +13,8 @@ use crate::link;
 use crate::place::Place;
 
 impl Arena {
-    /// Frees a node that has no children.
-    fn free_leaf(&mut self, at: usize)
+    /// Frees a node that has no children. A sibling before it may be told, near it.
+    fn free_leaf(&mut self, at: usize, near: Option<usize>)
         requires there { has_place (links_of self.old.places.items) at ≡ true }
         requires below_root { 0 < at }
         requires leaf { (e : _) → entry_at self.old.places.items at ≡ Some e → e.first ≡ None }
@@ -23,7 +23,7 @@ impl Arena {
         ensures grown { is_some self.new.free ≡ true }
         ensures fewer { node_count (nodes_of (links_of self.old.places.items)) ≡ suc (node_count (nodes_of (links_of self.new.places.items))) }
     {
-        let gone = link::take(&mut self.places, at);
+        let gone = link::take(&mut self.places, at, near);
         self.blocks -= gone.node.kind.block_count() as u64;
         self.places[at] = Place::Free { next: self.free };
         self.free = Some(at);
@@ -45,7 +45,7 @@ impl Arena {
                         return;
                     }
                     let parent = self.entry(at).parent;
-                    self.free_leaf(at);
+                    self.free_leaf(at, None);
                     at = parent;
                 }
             }
@@ -62,6 +62,8 @@ impl Arena {
         ensures room { is_some self.new.free ≡ true }
     {
         self.clear_below(at);
-        self.free_leaf(at);
+        let near = self.hints.behind(&self.places, at);
+        self.hints.take(&self.places, at);
+        self.free_leaf(at, near);
     }
 }

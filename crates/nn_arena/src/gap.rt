@@ -1,10 +1,13 @@
 // The one walk over siblings.
-ghost use Rattle.std.specs.Prelude.{◌≡◌, ◌<◌, ℕ, Some, None, true, false, length, IfSome, IfNone};
+ghost use Rattle.std.specs.Prelude.{◌≡◌, ◌<◌, ℕ, Some, None, true, false, length, [], IfSome, IfNone};
+ghost use Rattle.std.specs.declared.cmp.Ordering.TheVariants.{Less};
 ghost use Rattle.nn_base.specs.Paths as paths;
-ghost use Rattle.nn_tree.specs.Plain.{is_child};
+ghost use Rattle.nn_base.specs.Paths.{name_cmp};
+ghost use Rattle.nn_tree.specs.Plain.{is_child, is_later, name_at};
 ghost use Rattle.nn_arena.specs.Places.{in_use, links_of};
-ghost use Rattle.nn_arena.specs.Children.{AreLinked, IsGap};
+ghost use Rattle.nn_arena.specs.Children.{AreLinked, IsGap, IsWalked};
 
+use crate::hints::{Hints, child_at};
 use crate::place::{Place, entry_in};
 
 /// Where a name belongs among the children of a directory, in byte order.
@@ -16,14 +19,49 @@ pub(crate) struct Gap {
     pub(crate) after: Option<usize>,
 }
 
+/// A child of a directory whose name is below another, where the one near it is.
+fn passed(places: &[Place], parent: usize, name: &[u8], near: Option<usize>) -> Option<usize>
+    ensures { IfSome result (λ i. (is_later (links_of places.now) parent [] i ≡ true) × (name_cmp (name_at (links_of places.now) i) name.now ≡ Less)) }
+{
+    let at = near?;
+    let child = child_at(places, parent, at)?;
+    if child.name().is_empty() {
+        return None;
+    }
+    if child.name().cmp(name).is_lt() {
+        Some(at)
+    } else {
+        None
+    }
+}
+
+/// Where a walk begins: behind that child, or at the head of the directory.
+fn begin(places: &[Place], parent: usize, name: &[u8], near: Option<usize>) -> Gap
+    requires linked { AreLinked places.now }
+    requires there { in_use places.now parent ≡ true }
+    ensures { IsWalked places.now parent name.now result.before result.after }
+{
+    match passed(places, parent, name, near) {
+        Some(at) => Gap {
+            before: Some(at),
+            after: entry_in(places, at).next,
+        },
+        None => Gap {
+            before: None,
+            after: entry_in(places, parent).first,
+        },
+    }
+}
+
 /// Walks over the children of a directory, up to the first one whose name isn't below another.
-pub(crate) fn find_gap(places: &[Place], parent: usize, name: &[u8]) -> Gap
+pub(crate) fn find_gap(places: &[Place], parent: usize, name: &[u8], near: Option<usize>) -> Gap
     requires linked { AreLinked places.now }
     requires there { in_use places.now parent ≡ true }
     ensures { IsGap places.now parent name.now result }
 {
-    let mut before = None;
-    let mut after = entry_in(places, parent).first;
+    let start = begin(places, parent, name, near);
+    let mut before = start.before;
+    let mut after = start.after;
     'walk: while let Some(at) = after {
         let child = entry_in(places, at);
         if !child.name().cmp(name).is_lt() {
@@ -35,8 +73,19 @@ pub(crate) fn find_gap(places: &[Place], parent: usize, name: &[u8]) -> Gap
     Gap { before, after }
 }
 
+/// Whether a place is the child of a directory that has a name.
+fn has_name(places: &[Place], parent: usize, name: &[u8], at: usize) -> bool
+    ensures child { result ≡ true → is_child (links_of places.now) parent name.now at ≡ true }
+    ensures within { result ≡ true → at < length places.now }
+{
+    match child_at(places, parent, at) {
+        Some(child) => child.name() == name,
+        None => false,
+    }
+}
+
 /// The child of a directory that has a name.
-pub(crate) fn child(places: &[Place], parent: usize, name: &[u8]) -> Option<usize>
+pub(crate) fn child(places: &[Place], hints: &Hints, parent: usize, name: &[u8]) -> Option<usize>
     requires linked { AreLinked places.now }
     requires there { in_use places.now parent ≡ true }
     requires name { paths.is_name name.now ≡ true }
@@ -44,7 +93,12 @@ pub(crate) fn child(places: &[Place], parent: usize, name: &[u8]) -> Option<usiz
     ensures within { IfSome result (λ i. i < length places.now) }
     ensures none { IfNone result ((k : ℕ) → k < length places.now → is_child (links_of places.now) parent name.now k ≡ false) }
 {
-    let at = find_gap(places, parent, name).after?;
+    let last = hints.last(parent);
+    if has_name(places, parent, name, last) {
+        return Some(last);
+    }
+    let near = hints.near(places, parent, name);
+    let at = find_gap(places, parent, name, near).after?;
     if entry_in(places, at).name() == name {
         Some(at)
     } else {

@@ -7,6 +7,7 @@ mod clearing;
 mod climb;
 mod editing;
 mod gap;
+mod hints;
 mod link;
 mod moving;
 mod place;

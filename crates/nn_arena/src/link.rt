@@ -45,8 +45,8 @@ fn set_behind(places: &mut [Place], parent: usize, before: Option<usize>, to: Op
     }
 }
 
-/// Takes a node out of its directory: its siblings are linked without it, and its place is left free.
-pub(crate) fn take(places: &mut [Place], at: usize) -> Entry
+/// Takes a node out of its directory: its siblings are linked without it, and its place is left free. A sibling before it may be told, near it.
+pub(crate) fn take(places: &mut [Place], at: usize, near: Option<usize>) -> Entry
     requires tree { IsTree (links_of places.old) }
     requires linked { AreLinked places.old }
     requires there { in_use places.old at ≡ true }
@@ -57,7 +57,7 @@ pub(crate) fn take(places: &mut [Place], at: usize) -> Entry
     let taken = entry_in(places, at);
     let parent = taken.parent;
     let next = taken.next;
-    let gap = find_gap(places, parent, taken.name());
+    let gap = find_gap(places, parent, taken.name(), near);
     set_behind(places, parent, gap.before, next);
     match mem::replace(&mut places[at], Place::Free { next: None }) {
         Place::Used(entry) => entry,
@@ -65,8 +65,8 @@ pub(crate) fn take(places: &mut [Place], at: usize) -> Entry
     }
 }
 
-/// Puts a node into a directory, at a free place. No other child has its name.
-pub(crate) fn put(places: &mut [Place], at: usize, entry: Entry)
+/// Puts a node into a directory, at a free place. No other child has its name. A child with a name below it may be told, near it.
+pub(crate) fn put(places: &mut [Place], at: usize, entry: Entry, near: Option<usize>)
     requires linked { AreLinked places.old }
     requires named { AreNamed (links_of places.old) }
     requires apart { AreApart (links_of places.old) }
@@ -80,7 +80,7 @@ pub(crate) fn put(places: &mut [Place], at: usize, entry: Entry)
     ensures { IsPut places.old places.new at entry }
 {
     let mut entry = entry;
-    let gap = find_gap(places, entry.parent, entry.name());
+    let gap = find_gap(places, entry.parent, entry.name(), near);
     set_behind(places, entry.parent, gap.before, Some(at));
     entry.next = gap.after;
     places[at] = Place::Used(entry);

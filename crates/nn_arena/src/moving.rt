@@ -32,9 +32,13 @@ impl Arena {
         ensures room { self.new.free ≡ self.old.free }
     {
         let _bytes = name.bytes();
-        let mut moving = link::take(&mut self.places, at);
+        let near = self.hints.behind(&self.places, at);
+        self.hints.take(&self.places, at);
+        let mut moving = link::take(&mut self.places, at, near);
         moving.parent = parent;
         moving.name = Some(name);
-        link::put(&mut self.places, at, moving);
+        let near = self.hints.near(&self.places, parent, moving.name());
+        link::put(&mut self.places, at, moving, near);
+        self.hints.put(&self.places, at);
     }
 }

@@ -65,7 +65,12 @@ impl Tree for ArenaTree {
             if !self.arena.entry(at).node.kind.is_dir() {
                 return Walk::ThroughFile;
             }
-            match gap::child(&self.arena.places, at, path.name(k).bytes()) {
+            match gap::child(
+                &self.arena.places,
+                &self.arena.hints,
+                at,
+                path.name(k).bytes(),
+            ) {
                 None => return Walk::Missing,
                 Some(next) => at = next,
             }

@@ -46,8 +46,8 @@ pub put-requires-clause-new : goal.put-requires-clause-new
 put-requires-clause-new c =
     subst (λ (ps : List Place). (k : ℕ) → k < length ps → is_child (links_of ps) c.args.parent c.args.name k ≡ false) (sym c.deref_mut.ensures.value) (λ k _. no_child (links_of c.args.self.now.places.items) c.args.parent c.args.name c.args.self.now.tree c.requires.there c.requires.free k)
 
-pub invariant_of-self : goal.invariant_of-self
-invariant_of-self c =
+pub invariant_of-self-2 : goal.invariant_of-self-2
+invariant_of-self-2 c =
     let f = first_free c.args.self.now.places.items c.args.self.now.free c.in-Some.at c.args.self.now.free_list c.in-Some.is in
     let len : vec_len c.args.self.now.places ≡ length c.args.self.now.places.items = omega arith in
     let d = filled_back c.args.self.now.places.items c.deref_mut.result.now c.put.new.places (vec_len c.args.self.now.places) c.in-Some.at (record { parent = c.args.parent; first = None; next = None; name = Some c.args.name; node = c.args.node; usage = c.args.usage }) c.deref_mut.ensures.value len c.args.self.now.tree f c.put.ensures c.requires.there c.bytes-bytes.ensures.name c.requires.in_dir c.requires.free in
