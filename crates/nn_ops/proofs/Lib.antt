@@ -10,3 +10,4 @@ pub mod SharedLemmas
 pub mod ShortLemmas
 pub mod MoveLemmas
 pub mod EffectLemmas
+pub mod ReplayLemmas

@@ -20,15 +20,15 @@ use std::alloc::Global;
 pub fn prepare<T: Tree>(
     alloc: Global,
     tree: &mut T,
-    command: &Command,
+    command: Command,
     now: u64,
 ) -> Result<Plan, OpRefusal>
-    requires command { IsCommand command.now }
+    requires command { IsCommand command }
     requires now { IsLong now }
-    ensures ok { OnOk result (refusal_of (T.meaning tree.old) command.now ≡ None) }
-    ensures body { IfOk result (λ plan. plan.op ≡ op_of (T.meaning tree.old) command.now now) }
+    ensures ok { OnOk result (refusal_of (T.meaning tree.old) command ≡ None) }
+    ensures body { IfOk result (λ plan. plan.op ≡ op_of (T.meaning tree.old) command now) }
     ensures ready { IfOk result (λ plan. IsReady plan (T.has tree.new) (T.place tree.new) (T.spare tree.new) (T.meaning tree.new)) }
-    ensures err { IfErr result (λ refusal. refusal ≢ OpRefusal.Memory → refusal_of (T.meaning tree.old) command.now ≡ Some refusal) }
+    ensures err { IfErr result (λ refusal. refusal ≢ OpRefusal.Memory → refusal_of (T.meaning tree.old) command ≡ Some refusal) }
     ensures kept { T.meaning tree.new ≡ T.meaning tree.old }
     ensures has { T.has tree.new ≡ T.has tree.old }
     ensures place { T.place tree.new ≡ T.place tree.old }
@@ -36,15 +36,15 @@ pub fn prepare<T: Tree>(
     match command {
         Command::Mkdir { path } => prepare_mkdir(alloc, tree, path, now),
         Command::Create { path, replication } => {
-            prepare_create(alloc, tree, path, *replication, now)
+            prepare_create(alloc, tree, path, replication, now)
         }
-        Command::AddBlock { path, length } => prepare_block(alloc, tree, path, *length),
-        Command::Close { path } => prepare_close(alloc, tree, path, now),
-        Command::Delete { path } => prepare_delete(alloc, tree, path, now),
+        Command::AddBlock { path, length } => prepare_block(tree, path, length),
+        Command::Close { path } => prepare_close(tree, path, now),
+        Command::Delete { path } => prepare_delete(tree, path, now),
         Command::Rename { from, to } => prepare_rename(alloc, tree, from, to, now),
-        Command::Chmod { path, mode } => prepare_chmod(alloc, tree, path, *mode),
-        Command::Chown { path, owner, group } => prepare_chown(alloc, tree, path, *owner, *group),
-        Command::SetQuota { path, quota } => prepare_quota(alloc, tree, path, *quota),
-        Command::Setrep { path, replication } => prepare_setrep(alloc, tree, path, *replication),
+        Command::Chmod { path, mode } => prepare_chmod(tree, path, mode),
+        Command::Chown { path, owner, group } => prepare_chown(tree, path, owner, group),
+        Command::SetQuota { path, quota } => prepare_quota(tree, path, quota),
+        Command::Setrep { path, replication } => prepare_setrep(tree, path, replication),
     }
 }

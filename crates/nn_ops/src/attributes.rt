@@ -11,7 +11,6 @@ ghost use Rattle.nn_ops.specs.declared.command.Command.{Command};
 ghost use Rattle.nn_record.specs.declared.op.Op.{Op};
 
 use crate::OpRefusal;
-use crate::copies::copy_path;
 use crate::places::{file_at, node_at};
 use crate::plan::{Plan, Target};
 use crate::room::{fits_above, is_bad_replication};
@@ -19,22 +18,15 @@ use nn_base::{Label, Path};
 use nn_quota::{Quota, Usage};
 use nn_record::Op;
 use nn_tree::{Kind, Tree};
-use std::alloc::Global;
 
 /// Tests a `chmod`.
-pub(crate) fn prepare_chmod<T: Tree>(
-    alloc: Global,
-    tree: &T,
-    path: &Path,
-    mode: u16,
-) -> Result<Plan, OpRefusal>
+pub(crate) fn prepare_chmod<T: Tree>(tree: &T, path: Path, mode: u16) -> Result<Plan, OpRefusal>
     requires { mode ≤ most_mode }
-    ensures body { IfOk result (λ plan. plan.op ≡ Op.SetPermissions path.now mode) }
+    ensures body { IfOk result (λ plan. plan.op ≡ Op.SetPermissions path mode) }
     ensures ready { IfOk result (λ plan. IsReady plan (T.has tree.now) (T.place tree.now) (T.spare tree.now) (T.meaning tree.now)) }
-    ensures err { IfErr result (λ r. r ≢ OpRefusal.Memory → refusal_of (T.meaning tree.now) (Command.Chmod path.now mode) ≡ Some r) }
+    ensures err { IfErr result (λ r. r ≢ OpRefusal.Memory → refusal_of (T.meaning tree.now) (Command.Chmod path mode) ≡ Some r) }
 {
-    let at = node_at(tree, path)?;
-    let path = copy_path(alloc, path)?;
+    let at = node_at(tree, &path)?;
     Ok(Plan {
         op: Op::SetPermissions { path, mode },
         target: Target::At { at },
@@ -43,18 +35,16 @@ pub(crate) fn prepare_chmod<T: Tree>(
 
 /// Tests a `chown`.
 pub(crate) fn prepare_chown<T: Tree>(
-    alloc: Global,
     tree: &T,
-    path: &Path,
+    path: Path,
     owner: Label,
     group: Label,
 ) -> Result<Plan, OpRefusal>
-    ensures body { IfOk result (λ plan. plan.op ≡ Op.SetOwner path.now owner group) }
+    ensures body { IfOk result (λ plan. plan.op ≡ Op.SetOwner path owner group) }
     ensures ready { IfOk result (λ plan. IsReady plan (T.has tree.now) (T.place tree.now) (T.spare tree.now) (T.meaning tree.now)) }
-    ensures err { IfErr result (λ r. r ≢ OpRefusal.Memory → refusal_of (T.meaning tree.now) (Command.Chown path.now owner group) ≡ Some r) }
+    ensures err { IfErr result (λ r. r ≢ OpRefusal.Memory → refusal_of (T.meaning tree.now) (Command.Chown path owner group) ≡ Some r) }
 {
-    let at = node_at(tree, path)?;
-    let path = copy_path(alloc, path)?;
+    let at = node_at(tree, &path)?;
     Ok(Plan {
         op: Op::SetOwner { path, owner, group },
         target: Target::At { at },
@@ -62,25 +52,19 @@ pub(crate) fn prepare_chown<T: Tree>(
 }
 
 /// Tests a `quota`.
-pub(crate) fn prepare_quota<T: Tree>(
-    alloc: Global,
-    tree: &T,
-    path: &Path,
-    quota: Quota,
-) -> Result<Plan, OpRefusal>
+pub(crate) fn prepare_quota<T: Tree>(tree: &T, path: Path, quota: Quota) -> Result<Plan, OpRefusal>
     requires { IsQuota quota }
-    ensures body { IfOk result (λ plan. plan.op ≡ Op.SetQuota path.now quota) }
+    ensures body { IfOk result (λ plan. plan.op ≡ Op.SetQuota path quota) }
     ensures ready { IfOk result (λ plan. IsReady plan (T.has tree.now) (T.place tree.now) (T.spare tree.now) (T.meaning tree.now)) }
-    ensures err { IfErr result (λ r. r ≢ OpRefusal.Memory → refusal_of (T.meaning tree.now) (Command.SetQuota path.now quota) ≡ Some r) }
+    ensures err { IfErr result (λ r. r ≢ OpRefusal.Memory → refusal_of (T.meaning tree.now) (Command.SetQuota path quota) ≡ Some r) }
 {
-    let at = node_at(tree, path)?;
+    let at = node_at(tree, &path)?;
     if !tree.node(at).kind.is_dir() {
         return Err(OpRefusal::NotDir);
     }
     if is_zero(quota.names) {
         return Err(OpRefusal::Limit);
     }
-    let path = copy_path(alloc, path)?;
     Ok(Plan {
         op: Op::SetQuota { path, quota },
         target: Target::At { at },
@@ -113,16 +97,15 @@ fn growth(kind: &Kind, replication: u64) -> u128
 
 /// Tests a `setrep`.
 pub(crate) fn prepare_setrep<T: Tree>(
-    alloc: Global,
     tree: &T,
-    path: &Path,
+    path: Path,
     replication: u64,
 ) -> Result<Plan, OpRefusal>
-    ensures body { IfOk result (λ plan. plan.op ≡ Op.SetReplication path.now replication) }
+    ensures body { IfOk result (λ plan. plan.op ≡ Op.SetReplication path replication) }
     ensures ready { IfOk result (λ plan. IsReady plan (T.has tree.now) (T.place tree.now) (T.spare tree.now) (T.meaning tree.now)) }
-    ensures err { IfErr result (λ r. r ≢ OpRefusal.Memory → refusal_of (T.meaning tree.now) (Command.Setrep path.now replication) ≡ Some r) }
+    ensures err { IfErr result (λ r. r ≢ OpRefusal.Memory → refusal_of (T.meaning tree.now) (Command.Setrep path replication) ≡ Some r) }
 {
-    let at = file_at(tree, path)?;
+    let at = file_at(tree, &path)?;
     if is_bad_replication(replication) {
         return Err(OpRefusal::Limit);
     }
@@ -134,7 +117,6 @@ pub(crate) fn prepare_setrep<T: Tree>(
     if !fits_above(tree, at, more) {
         return Err(OpRefusal::Quota);
     }
-    let path = copy_path(alloc, path)?;
     Ok(Plan {
         op: Op::SetReplication {
             path,

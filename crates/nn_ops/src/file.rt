@@ -9,7 +9,6 @@ ghost use Rattle.nn_ops.specs.declared.command.Command.{Command};
 ghost use Rattle.nn_record.specs.declared.op.Op.{Op};
 
 use crate::OpRefusal;
-use crate::copies::copy_path;
 use crate::places::open_file_at;
 use crate::plan::{Plan, Target};
 use crate::room::{fits_above, is_bad_length, is_full_file};
@@ -17,22 +16,15 @@ use nn_base::Path;
 use nn_quota::Usage;
 use nn_record::Op;
 use nn_tree::{Kind, Tree};
-use std::alloc::Global;
 
 /// Tests a `close`.
-pub(crate) fn prepare_close<T: Tree>(
-    alloc: Global,
-    tree: &T,
-    path: &Path,
-    now: u64,
-) -> Result<Plan, OpRefusal>
+pub(crate) fn prepare_close<T: Tree>(tree: &T, path: Path, now: u64) -> Result<Plan, OpRefusal>
     requires { IsLong now }
-    ensures body { IfOk result (λ plan. plan.op ≡ op_of (T.meaning tree.now) (Command.Close path.now) now) }
+    ensures body { IfOk result (λ plan. plan.op ≡ op_of (T.meaning tree.now) (Command.Close path) now) }
     ensures ready { IfOk result (λ plan. IsReady plan (T.has tree.now) (T.place tree.now) (T.spare tree.now) (T.meaning tree.now)) }
-    ensures err { IfErr result (λ r. r ≢ OpRefusal.Memory → refusal_of (T.meaning tree.now) (Command.Close path.now) ≡ Some r) }
+    ensures err { IfErr result (λ r. r ≢ OpRefusal.Memory → refusal_of (T.meaning tree.now) (Command.Close path) ≡ Some r) }
 {
-    let at = open_file_at(tree, path)?;
-    let path = copy_path(alloc, path)?;
+    let at = open_file_at(tree, &path)?;
     Ok(Plan {
         op: Op::Close { path, time: now },
         target: Target::At { at },
@@ -51,19 +43,18 @@ fn replication(kind: &Kind) -> u16
 
 /// Tests a `block`, and makes room for it.
 pub(crate) fn prepare_block<T: Tree>(
-    alloc: Global,
     tree: &mut T,
-    path: &Path,
+    path: Path,
     length: u64,
 ) -> Result<Plan, OpRefusal>
-    ensures body { IfOk result (λ plan. plan.op ≡ Op.AddBlock path.now ((T.meaning tree.old).counters.block + 1) ((T.meaning tree.old).counters.stamp + 1) length) }
+    ensures body { IfOk result (λ plan. plan.op ≡ Op.AddBlock path ((T.meaning tree.old).counters.block + 1) ((T.meaning tree.old).counters.stamp + 1) length) }
     ensures ready { IfOk result (λ plan. IsReady plan (T.has tree.new) (T.place tree.new) (T.spare tree.new) (T.meaning tree.new)) }
-    ensures err { IfErr result (λ r. r ≢ OpRefusal.Memory → refusal_of (T.meaning tree.old) (Command.AddBlock path.now length) ≡ Some r) }
+    ensures err { IfErr result (λ r. r ≢ OpRefusal.Memory → refusal_of (T.meaning tree.old) (Command.AddBlock path length) ≡ Some r) }
     ensures means { T.meaning tree.new ≡ T.meaning tree.old }
     ensures has { T.has tree.new ≡ T.has tree.old }
     ensures place { T.place tree.new ≡ T.place tree.old }
 {
-    let at = open_file_at(tree, path)?;
+    let at = open_file_at(tree, &path)?;
     if is_bad_length(length) || is_full_file(tree, at) {
         return Err(OpRefusal::Limit);
     }
@@ -74,7 +65,6 @@ pub(crate) fn prepare_block<T: Tree>(
     if !fits_above(tree, at, more) {
         return Err(OpRefusal::Quota);
     }
-    let path = copy_path(alloc, path)?;
     let counters = tree.counters();
     tree.reserve(at)?;
     Ok(Plan {

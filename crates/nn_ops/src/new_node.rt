@@ -10,7 +10,7 @@ ghost use Rattle.nn_tree.specs.declared.node.Kind.{Kind};
 ghost use Rattle.nn_ops.specs.declared.command.Command.{Command};
 
 use crate::OpRefusal;
-use crate::copies::{copy_path, last_name};
+use crate::copies::last_name;
 use crate::places::free_place;
 use crate::plan::{Plan, Target};
 use crate::room::{is_bad_replication, room_for_node};
@@ -34,20 +34,19 @@ fn hdfs() -> Label
 pub(crate) fn prepare_mkdir<T: Tree>(
     alloc: Global,
     tree: &mut T,
-    path: &Path,
+    path: Path,
     now: u64,
 ) -> Result<Plan, OpRefusal>
     requires { IsLong now }
-    ensures body { IfOk result (λ plan. plan.op ≡ op_of (T.meaning tree.old) (Command.Mkdir path.now) now) }
+    ensures body { IfOk result (λ plan. plan.op ≡ op_of (T.meaning tree.old) (Command.Mkdir path) now) }
     ensures ready { IfOk result (λ plan. IsReady plan (T.has tree.new) (T.place tree.new) (T.spare tree.new) (T.meaning tree.new)) }
-    ensures err { IfErr result (λ r. r ≢ OpRefusal.Memory → refusal_of (T.meaning tree.old) (Command.Mkdir path.now) ≡ Some r) }
+    ensures err { IfErr result (λ r. r ≢ OpRefusal.Memory → refusal_of (T.meaning tree.old) (Command.Mkdir path) ≡ Some r) }
     ensures means { T.meaning tree.new ≡ T.meaning tree.old }
     ensures has { T.has tree.new ≡ T.has tree.old }
     ensures place { T.place tree.new ≡ T.place tree.old }
 {
-    let parent = free_place(alloc, tree, path)?;
+    let parent = free_place(alloc, tree, &path)?;
     room_for_node(alloc, tree, parent)?;
-    let path = copy_path(alloc, path)?;
     let name = last_name(alloc, &path)?;
     let owner = hdfs();
     let group = tree.node(parent).group;
@@ -104,25 +103,24 @@ fn empty_file(alloc: Global, replication: u16) -> Kind
 pub(crate) fn prepare_create<T: Tree>(
     alloc: Global,
     tree: &mut T,
-    path: &Path,
+    path: Path,
     replication: u64,
     now: u64,
 ) -> Result<Plan, OpRefusal>
     requires { IsLong now }
-    ensures body { IfOk result (λ plan. plan.op ≡ op_of (T.meaning tree.old) (Command.Create path.now replication) now) }
+    ensures body { IfOk result (λ plan. plan.op ≡ op_of (T.meaning tree.old) (Command.Create path replication) now) }
     ensures ready { IfOk result (λ plan. IsReady plan (T.has tree.new) (T.place tree.new) (T.spare tree.new) (T.meaning tree.new)) }
-    ensures err { IfErr result (λ r. r ≢ OpRefusal.Memory → refusal_of (T.meaning tree.old) (Command.Create path.now replication) ≡ Some r) }
+    ensures err { IfErr result (λ r. r ≢ OpRefusal.Memory → refusal_of (T.meaning tree.old) (Command.Create path replication) ≡ Some r) }
     ensures means { T.meaning tree.new ≡ T.meaning tree.old }
     ensures has { T.has tree.new ≡ T.has tree.old }
     ensures place { T.place tree.new ≡ T.place tree.old }
 {
-    let parent = free_place(alloc, tree, path)?;
+    let parent = free_place(alloc, tree, &path)?;
     if is_bad_replication(replication) {
         return Err(OpRefusal::Limit);
     }
     room_for_node(alloc, tree, parent)?;
     let replication = replication as u16;
-    let path = copy_path(alloc, path)?;
     let name = last_name(alloc, &path)?;
     let owner = hdfs();
     let group = tree.node(parent).group;

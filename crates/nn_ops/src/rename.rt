@@ -13,7 +13,7 @@ ghost use Rattle.nn_ops.specs.Step.{refusal_of};
 ghost use Rattle.nn_ops.specs.declared.command.Command.{Command};
 
 use crate::OpRefusal;
-use crate::copies::{copy_path, last_name};
+use crate::copies::last_name;
 use crate::places::{free_place, is_root, node_at};
 use crate::plan::{Plan, Target};
 use crate::room::fits_at;
@@ -136,25 +136,25 @@ fn fits_move<T: Tree>(tree: &T, at: Spot, parent: Spot, from: &Path, to: &Path) 
 pub(crate) fn prepare_rename<T: Tree>(
     alloc: Global,
     tree: &T,
-    from: &Path,
-    to: &Path,
+    from: Path,
+    to: Path,
     now: u64,
 ) -> Result<Plan, OpRefusal>
     requires { IsLong now }
-    ensures body { IfOk result (λ plan. plan.op ≡ op_of (T.meaning tree.now) (Command.Rename from.now to.now) now) }
+    ensures body { IfOk result (λ plan. plan.op ≡ op_of (T.meaning tree.now) (Command.Rename from to) now) }
     ensures ready { IfOk result (λ plan. IsReady plan (T.has tree.now) (T.place tree.now) (T.spare tree.now) (T.meaning tree.now)) }
-    ensures err { IfErr result (λ r. r ≢ OpRefusal.Memory → refusal_of (T.meaning tree.now) (Command.Rename from.now to.now) ≡ Some r) }
+    ensures err { IfErr result (λ r. r ≢ OpRefusal.Memory → refusal_of (T.meaning tree.now) (Command.Rename from to) ≡ Some r) }
 {
-    let at = moved_node(tree, from, to)?;
-    let parent = free_place(alloc, tree, to)?;
-    if !moves_short(tree, at, to) {
+    let at = moved_node(tree, &from, &to)?;
+    let parent = free_place(alloc, tree, &to)?;
+    if !moves_short(tree, at, &to) {
         return Err(OpRefusal::Limit);
     }
-    if !fits_move(tree, at, parent, from, to) {
+    if !fits_move(tree, at, parent, &from, &to) {
         return Err(OpRefusal::Quota);
     }
-    let from = copy_path(alloc, from)?;
-    let to = copy_path(alloc, to)?;
+    // That the path is one is told by its depth.
+    let _depth = to.depth();
     let name = last_name(alloc, &to)?;
     Ok(Plan {
         op: Op::RenameOld {

@@ -220,7 +220,7 @@ pub fn replay<T: Tree>(alloc: Global, tree: &mut T, op: &Op) -> Result<(), Clash
     let Some(command) = command_in(alloc, op)? else {
         return Ok(());
     };
-    match prepare(alloc, tree, &command, time_in(op)) {
+    match prepare(alloc, tree, command, time_in(op)) {
         Ok(plan) => {
             if !same_assigned(&assigned_in(plan.op()), &assigned_in(op)) {
                 return Err(Clash::Refused);
