@@ -117,7 +117,7 @@ impl<T: Tree> Core<T> {
         ensures count { self.new.count ≡ self.old.count }
     {
         match command {
-            ScriptCommand::Namespace(change) => self.change(alloc, host, &change),
+            ScriptCommand::Namespace(change) => self.change(alloc, host, change),
             ScriptCommand::Clock(time) => {
                 self.time = time;
                 unless_failed(self.speech.say(host, Answer::Done))
@@ -137,11 +137,11 @@ impl<T: Tree> Core<T> {
     }
 
     // Does a change, or tells why it is refused.
-    fn change<H: Host>(&mut self, alloc: Global, host: &mut H, command: &Command) -> Result<(), End>
+    fn change<H: Host>(&mut self, alloc: Global, host: &mut H, command: Command) -> Result<(), End>
         requires ready { IsReady self.old.journal self.old.count (H.state host.old) }
         requires ids { self.old.journal.last + 128 < 2 ^ 63 }
-        requires command { IsCommand command.now }
-        ensures stepped { HasStepped H.told (Ok (Some (ChangeLine command.now))) self.old.count (T.meaning self.old.tree) (T.meaning self.new.tree) self.old.time self.new.time self.old.journal self.new.journal (H.state host.old) (H.state host.new) result }
+        requires command { IsCommand command }
+        ensures stepped { HasStepped H.told (Ok (Some (ChangeLine command))) self.old.count (T.meaning self.old.tree) (T.meaning self.new.tree) self.old.time self.new.time self.old.journal self.new.journal (H.state host.old) (H.state host.new) result }
         ensures count { self.new.count ≡ self.old.count }
     {
         match prepare(alloc, &mut self.tree, command, self.time) {

@@ -1,5 +1,5 @@
 -- The limits of a namespace, where a command changes one node.
-use Rattle.std.proofs.Common.{◌≡◌, ℕ, ◌+◌, ◌<◌, ◌≤◌, ◌^◌, true, [], ◌∷◌, ◌++◌, length, Option, Some, None, refl, sym, ap, subst, arith, is_some, length-append}
+use Rattle.std.proofs.Common.{◌≡◌, ℕ, ◌+◌, ◌<◌, ◌≤◌, true, [], ◌∷◌, ◌++◌, length, Option, Some, None, refl, sym, ap, subst, arith, is_some, length-append}
 use Rattle.std.specs.FinMap.{get, insert}
 use Rattle.nn_base.specs.Paths.{Names, Bytes}
 use Rattle.std.specs.Option.{ForSome, option_map_or}

@@ -1,12 +1,11 @@
 -- A body is told by its command, its time and what it assigns.
-use Rattle.std.proofs.Common.{◌≡◌, ◌+◌, refl, Some, None, sym, ap, subst, ◌∙◌}
+use Rattle.std.proofs.Common.{◌≡◌, ◌+◌, refl, Some, None, sym, ap, subst}
 use Rattle.std.specs.Prelude.{IfSome}
 use Rattle.nn_base.proofs.PlainLemmas.{some_is}
 use Rattle.nn_tree.specs.Namespace.{Namespace, hdfs}
 use Rattle.nn_record.specs.declared.op.Op.{Op}
 use Rattle.nn_record.specs.declared.op.Op.TheVariants.{Add, RenameOld, Delete, Mkdir as MkdirOp, SetReplication, SetPermissions, SetOwner, Close as CloseOp, SetQuota as SetQuotaOp, EndLogSegment, StartLogSegment, AddBlock as AddBlockOp}
 use Rattle.nn_ops.specs.declared.command.Command.{Command}
-use Rattle.nn_ops.specs.declared.command.Command.TheVariants.{Mkdir, Create, AddBlock, Close, Delete as DeleteCommand, Rename, Chmod, Chown, SetQuota, Setrep}
 use Rattle.nn_ops.specs.Bodies.{group_above, op_of, command_of_op, time_of}
 use Rattle.nn_ops.specs.declared.replayed.Assigned.{Assigned}
 use Rattle.nn_ops.specs.Replays.{assigned_by}

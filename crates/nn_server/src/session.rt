@@ -80,7 +80,7 @@ impl<T: Tree> Session<T> {
             (scene (T.meaning self.new.tree) self.new.time) result }
     {
         match command {
-            ScriptCommand::Namespace(change) => match self.change(alloc, &change) {
+            ScriptCommand::Namespace(change) => match self.change(alloc, change) {
                 Ok(answer) => unless_failed(self.speech.say(host, answer)),
                 Err(NoMemory) => Err(Unsaid::Memory),
             },
@@ -109,13 +109,13 @@ impl<T: Tree> Session<T> {
     }
 
     // Does a change, or tells why it is refused.
-    fn change(&mut self, alloc: Global, command: &Command) -> Result<Answer, NoMemory>
-        requires { IsCommand command.now }
+    fn change(&mut self, alloc: Global, command: Command) -> Result<Answer, NoMemory>
+        requires { IsCommand command }
         ensures said { IfOk result IsSaid }
         ensures reply { IfOk result (λ answer. answer_text answer ≡ (change_reply
-            (step (T.meaning self.old.tree) command.now self.old.time) self.old.time).text) }
+            (step (T.meaning self.old.tree) command self.old.time) self.old.time).text) }
         ensures after { OnOk result (scene (T.meaning self.new.tree) self.new.time
-            ≡ (change_reply (step (T.meaning self.old.tree) command.now self.old.time)
+            ≡ (change_reply (step (T.meaning self.old.tree) command self.old.time)
             self.old.time).after) }
     {
         match prepare(alloc, &mut self.tree, command, self.time) {

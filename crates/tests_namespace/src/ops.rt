@@ -107,7 +107,7 @@ fn answer<T: Tree>(
     row: Ask,
 ) -> Result<Option<OpRefusal>, Fail> {
     let command = command(rt, alloc, row)?;
-    match prepare(alloc, tree, &command, 9) {
+    match prepare(alloc, tree, command, 9) {
         Ok(plan) => {
             apply(tree, plan);
             Ok(None)
@@ -261,7 +261,7 @@ fn a_name_of_255_bytes_is_made(rt: HostRuntime) -> Result<(), Fail> {
     let mut names = Vec::new(alloc);
     names.push(Name::of(alloc, &bytes)?.ok_or("a name")?)?;
     let path = Path::of(names).ok_or("a path")?;
-    assert!(rt; prepare(alloc, &mut tree, &Command::Mkdir { path }, 0).is_ok());
+    assert!(rt; prepare(alloc, &mut tree, Command::Mkdir { path }, 0).is_ok());
     Ok(())
 }
 

@@ -1,5 +1,4 @@
-use Rattle.std.proofs.Common.{◌≡◌, sym, ap, subst, ◌∙◌, Some}
-use Rattle.nn_record.specs.declared.op.Op.{Op}
+use Rattle.std.proofs.Common.{◌≡◌, sym, ap, ◌∙◌, Some}
 use Rattle.nn_ops.specs.Bodies.{op_of, command_of_op, time_of}
 use Rattle.nn_ops.specs.Replays.{assigned_by}
 use Rattle.nn_ops.specs.Effects.{effect}

@@ -12,14 +12,14 @@ use Rattle.nn_core.proofs.step.Core.change.Goals as goal
 pub returns-in-Err-spoken-clause-stepped : goal.returns-in-Err-spoken-clause-stepped
 returns-in-Err-spoken-clause-stepped g c =
     let core = c.args.self.now in
-    let command = c.args.command.now in
+    let command = c.args.command in
     stepped_to c.prepare.ensures.kept (memory_step (Ok (Some (Change command))) core.journal core.count (g.T.Tree.meaning core.tree) core.time (g.H.Host.state c.args.host.now) (λ e. cc) (command, refl) c.requires.ready)
 
 pub returns-in-Ok-spoken-clause-stepped : goal.returns-in-Ok-spoken-clause-stepped
 returns-in-Ok-spoken-clause-stepped g c =
     let core = c.args.self.now in
     let ns = g.T.Tree.meaning core.tree in
-    let command = c.args.command.now in
+    let command = c.args.command in
     let answer = c.in-Ok-spoken.answer in
     stepped_to c.prepare.ensures.kept (stepped_as c.unless_failed.ensures (plain_step (Ok (Some (Change command))) core.journal core.count ns core.time core.time (g.H.Host.state c.args.host.now) (g.H.Host.state c.say.new.host) (answer_text answer) c.say.result
     (λ e. cc)
