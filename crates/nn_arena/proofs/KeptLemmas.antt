@@ -1,5 +1,5 @@
 -- What the arena keeps while usages are carried up, and while one node is changed where it stands.
-use Rattle.std.proofs.Common.{◌≡◌, ◌≢◌, ℕ, Bool, true, false, cond, List, inl, inr, ◌++◌, length, take, drop, Option, Some, None, refl, sym, ap, subst, ◌∙◌}
+use Rattle.std.proofs.Common.{arith, ◌≡◌, ◌≢◌, ℕ, ◌+◌, ◌-◌, Bool, true, false, cond, List, inl, inr, ◌++◌, length, take, drop, Option, Some, None, refl, sym, ap, subst, ◌∙◌}
 use Rattle.std.specs.Prelude.{slice_get, option_and_then, option_map}
 use Rattle.std.proofs.Math.Logic.{∥∥₁_map}
 use Rattle.std.proofs.lemmas.Bool.{cases_eq}
@@ -18,7 +18,7 @@ use Rattle.nn_arena.specs.declared.place.Place.TheVariants.{Free, Used}
 use Rattle.nn_arena.specs.Places.{entry_of, entry_at, link_of, links_of, IsWith}
 use Rattle.nn_arena.specs.Children.{AreLinked}
 use Rattle.nn_arena.specs.FreeList.{IsFreeList}
-use Rattle.nn_arena.specs.Totals.{IsClimbed, climbed_place}
+use Rattle.nn_arena.specs.Totals.{IsClimbed, climbed_place, reweighed}
 use Rattle.nn_arena.proofs.PlaceLemmas.{entry_read, place_at, entry_within, live_entry, spot_entry, with_other}
 use Rattle.nn_arena.proofs.FreeLemmas.{list_kept}
 use Rattle.nn_arena.proofs.ClimbedLemmas.{climbed_links, climbed_at, carried}
@@ -119,3 +119,19 @@ pub with_back : (ps cur new : List Place) (n i : ℕ) (f : Node → Node) → cu
 with_back ps cur new n i f same len done e is =
     let w : IsWith ps new i (Used (record e { node = f e.node })) = subst (λ (ps : List Place). IsWith ps new i (Used (record e { node = f e.node }))) same (done e (ap (λ (ps : List Place). entry_at ps i) same ∙ is)) in
     subst (λ (qs : List Place). IsWith ps qs i (Used (record e { node = f e.node }))) (sym (written_back n new ps len w.size)) w
+
+-- ---- what keeps its space keeps each usage
+
+pub stays_climbed : (ps : List Place) (q : Names) (was now : ℕ) → was ≡ now → IsClimbed ps ps q (reweighed was now)
+stays_climbed ps q was now same = record { size = refl; each = λ j. each j (slice_get ps j) }
+  where
+    usage : (u : Usage) → u ≡ reweighed was now u
+    usage u = let s : u.space ≡ (u.space + now) - was = omega arith in λ i. record { names = u.names; space = s i }
+
+    each : (j : ℕ) (o : Option Place) → o ≡ option_map (climbed_place ps q (reweighed was now) j) o
+    each j None = refl
+    each j (Some (Free next)) = refl
+    each j (Some (Used e)) = elim (is_under (place_of (links_of ps) j) q) as (λ b. Some (Used e) ≡ Some (cond b (Used (record e { usage = reweighed was now e.usage })) (Used e))) [
+      | true ↦ λ i. Some (Used (record e { usage = usage e.usage i }))
+      | false ↦ refl
+    ]

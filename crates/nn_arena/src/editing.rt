@@ -84,7 +84,7 @@ impl Arena {
                     space: gone,
                 },
             );
-        } else {
+        } else if old < new {
             let more = u128::from(new - old);
             self.add_up(
                 at,

@@ -1,7 +1,9 @@
 // The linked tree.
-ghost use Rattle.std.specs.Prelude.{◌≡◌, vec_len};
+ghost use Rattle.std.specs.Prelude.{◌≡◌, true, vec_len};
 ghost use Rattle.nn_tree.specs.Limits.{IsKind, IsCounters};
 ghost use Rattle.nn_arena.specs.Totals.{AreTotals, own_usage};
+ghost use Rattle.nn_tree.specs.Changes.{changed};
+ghost use Rattle.nn_tree.specs.Nodes.{space_of};
 
 use crate::arena::Arena;
 use crate::gap;
@@ -29,6 +31,20 @@ fn own(node: &Node) -> Usage
     Usage {
         names: 1,
         space: u128::from(node.kind.space()),
+    }
+}
+
+/// Whether a change leaves the space of its node, so that no usage changes.
+fn keeps_space(change: &Change) -> bool
+    ensures { result ≡ true → (node : _) → space_of (changed change.now node).kind ≡ space_of node.kind }
+{
+    match change {
+        Change::Replication(_) => false,
+        Change::Time(_) => true,
+        Change::Mode(_) => true,
+        Change::Owner { .. } => true,
+        Change::Quota(_) => true,
+        Change::Closed => true,
     }
 }
 
@@ -150,6 +166,10 @@ impl Tree for ArenaTree {
     }
 
     fn change(&mut self, at: Spot, change: Change) {
+        if keeps_space(&change) {
+            self.arena.change(at.index, change);
+            return;
+        }
         let old = self.arena.entry(at.index).node.kind.space();
         self.arena.change(at.index, change);
         self.arena.weigh(at.index, old);
