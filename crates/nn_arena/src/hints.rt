@@ -13,12 +13,12 @@ const MOST_STEPS: u32 = 200;
 #[derive(Clone, Copy)]
 struct Hint {
     /// Of a directory: the child that was put last, there or somewhere below.
-    last: usize,
+    last: u32,
     /// Of a directory: the top of a search tree by name over an eighth of its children.
-    top: usize,
+    top: u32,
     /// Of a child in such a tree: those with names below its own, and those above.
-    below: usize,
-    above: usize,
+    below: u32,
+    above: u32,
 }
 
 const NONE: Hint = Hint {
@@ -55,9 +55,17 @@ pub(crate) fn child_at(places: &[Place], dir: usize, at: usize) -> Option<&Entry
     }
 }
 
-/// Numbers of places, well mixed: the upper bits are as random.
+/// The number of a place with its bits mixed (the finalizer of MurmurHash3), so that the ranks of any run of places are as random.
 fn rank(at: usize) -> u64 {
-    (at as u64).wrapping_mul(0x9e37_79b9_7f4a_7c15)
+    let mixed = at as u64;
+    let mixed = (mixed ^ mixed >> 33).wrapping_mul(0xff51_afd7_ed55_8ccd);
+    let mixed = (mixed ^ mixed >> 33).wrapping_mul(0xc4ce_b9fe_1a85_ec53);
+    mixed ^ mixed >> 33
+}
+
+/// The number of a place as it is remembered: past 2^32 none is.
+fn number(at: usize) -> u32 {
+    u32::try_from(at).unwrap_or(0)
 }
 
 fn is_searched(at: usize) -> bool {
@@ -86,19 +94,21 @@ impl Hints {
 
     /// The child that was put last into a directory.
     pub(crate) fn last(&self, dir: usize) -> usize {
-        self.get(dir).last
+        self.get(dir).last as usize
     }
 
     fn follow(&self, link: Link) -> usize {
-        match link {
+        let to = match link {
             Link::Top(at) => self.get(at).top,
             Link::Below(at) => self.get(at).below,
             Link::Above(at) => self.get(at).above,
-        }
+        };
+        to as usize
     }
 
     fn set(&mut self, link: Link, to: usize) {
         let (Link::Top(at) | Link::Below(at) | Link::Above(at)) = link;
+        let to = number(to);
         if let Some(hint) = self.of.get_mut(at) {
             match link {
                 Link::Top(_) => hint.top = to,
@@ -115,16 +125,16 @@ impl Hints {
             return Some(last);
         }
         let mut near = None;
-        let mut at = self.get(dir).top;
+        let mut at = self.follow(Link::Top(dir));
         'search: for _ in 0..MOST_STEPS {
             match child_at(places, dir, at) {
                 None => break,
                 Some(entry) => {
                     if entry.name().cmp(name).is_lt() {
                         near = Some(at);
-                        at = self.get(at).above;
+                        at = self.follow(Link::Above(at));
                     } else {
-                        at = self.get(at).below;
+                        at = self.follow(Link::Below(at));
                     }
                 }
             }
@@ -153,6 +163,7 @@ impl Hints {
 
     /// Remembers the last child of a directory, and tells whether it was another one.
     fn pass(&mut self, dir: usize, at: usize) -> bool {
+        let at = number(at);
         match self.of.get_mut(dir) {
             Some(hint) if hint.last != at => {
                 hint.last = at;
@@ -184,7 +195,7 @@ impl Hints {
     /// Puts a child into the search tree of its directory: above those of a lower rank, which are parted by its name.
     fn plant(&mut self, places: &[Place], dir: usize, at: usize, name: &[u8]) {
         let mut link = Link::Top(dir);
-        let mut next = self.get(dir).top;
+        let mut next = self.follow(Link::Top(dir));
         'down: for _ in 0..MOST_STEPS {
             match child_at(places, dir, next) {
                 None => break,
@@ -242,7 +253,7 @@ impl Hints {
     /// Takes a child out of the search tree of its directory.
     fn uproot(&mut self, places: &[Place], dir: usize, at: usize, name: &[u8]) {
         let mut link = Link::Top(dir);
-        let mut next = self.get(dir).top;
+        let mut next = self.follow(Link::Top(dir));
         'down: for _ in 0..MOST_STEPS {
             if next == at {
                 self.join(link, at);
@@ -265,8 +276,8 @@ impl Hints {
     /// Joins what is below a child and what is above it, in its stead.
     fn join(&mut self, link: Link, at: usize) {
         let mut link = link;
-        let mut below = self.get(at).below;
-        let mut above = self.get(at).above;
+        let mut below = self.follow(Link::Below(at));
+        let mut above = self.follow(Link::Above(at));
         'joins: for _ in 0..MOST_STEPS {
             if below == 0 {
                 break;
