@@ -9,9 +9,9 @@ use Rattle.nn_server.specs.Codes.{code_of}
 use Rattle.nn_serve.specs.Ran.{RunRan}
 use Rattle.nn_top.specs.Wanted.{Wanted, States, Format, Dry, Run, dirs_in}
 use Rattle.nn_top.specs.Commands.{wanted_by, HaveNoReading}
-use Rattle.nn_top.specs.Did.{Unread, Did, ExitsAs}
+use Rattle.nn_top.specs.Did.{Unread, Did}
 use Rattle.nn_top.proofs.ReadingLemmas.{one_reading, read_or_not}
-use Rattle.nn_cli.specs.Exit.{CanEndBy, ExitsBy}
+use Rattle.nn_cli.specs.Exit.{ExitsAs, CanEndBy, ExitsBy}
 
 -- memory ran out before the run
 pub exits_starved : (words : List Bytes) (exit : ℕ) → exit ≡ code_of Memory → ExitsBy words exit

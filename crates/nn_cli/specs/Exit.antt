@@ -8,7 +8,11 @@ use Rattle.nn_server.specs.declared.status.Status.TheVariants.{Memory}
 use Rattle.nn_server.specs.Codes.{code_of}
 use Rattle.nn_top.specs.Wanted.{Wanted, dirs_in}
 use Rattle.nn_top.specs.Commands.{wanted_by, HaveNoReading}
-use Rattle.nn_top.specs.Did.{Unread, Did, ExitsAs}
+use Rattle.nn_top.specs.Did.{Unread, Did}
+
+-- this is the exit code of a status that a run ended with of which this is told
+abbrev pub ExitsAs : (Status → Type 0) → ℕ → Type 0
+ExitsAs Ends code = (status : Status) × (code ≡ code_of status) × Ends status
 
 -- a run that was asked for this comes to this status over folders and a source that tell nothing and hadn't failed before
 abbrev pub CanEndBy : Wanted → Status → Type 0

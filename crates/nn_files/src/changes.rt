@@ -1,6 +1,7 @@
 // Changing a directory: making, renaming and removing, each with the sync of the folder that holds the name.
 //
 // What is there is looked at first, so that an error of the change itself is a failure, whatever its kind.
+use crate::doing::{Doing, Verb};
 use crate::paths::Place;
 use nn_base::{FileName, Sub};
 use std::fs::{File, OpenFile, create_dir, remove_file, rename};
@@ -89,25 +90,31 @@ impl<'a, R: Files> Place<'a, R> {
         self.sync_folder(self.root)
     }
 
-    /// Syncs all that the directory reads: each file, then the subfolder that holds it, then the directory itself.
-    pub fn settle(&self) -> io::Result<()> {
+    /// Syncs all that the directory reads: each file, then the subfolder that holds it, then the directory itself. After an error
+    /// `doing` is what was refused.
+    pub fn settle(&self, doing: &mut Doing) -> io::Result<()> {
         if !self.has_root()? {
             return Ok(());
         }
         'subs: for sub in SUBS {
+            *doing = Doing::sub(Verb::LookAt, sub);
             if self.has_sub(sub)? {
-                self.settle_sub(sub)?;
+                self.settle_sub(sub, doing)?;
             }
         }
+        *doing = Doing::root(Verb::Sync);
         self.sync_folder(self.root)
     }
 
-    fn settle_sub(&self, sub: Sub) -> io::Result<()> {
+    fn settle_sub(&self, sub: Sub, doing: &mut Doing) -> io::Result<()> {
+        *doing = Doing::sub(Verb::List, sub);
         let names = self.list(sub)?;
         'files: for name in names {
+            *doing = Doing::file(Verb::Sync, sub, &name);
             let path = self.file_path(sub, &name)?;
             File::open(self.rt, path.as_str())?.sync_all()?;
         }
+        *doing = Doing::sub(Verb::Sync, sub);
         self.sync_sub(sub)
     }
 

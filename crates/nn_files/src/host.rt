@@ -3,6 +3,7 @@ ghost use Rattle.std.specs.Prelude.{◌≡◌, ◌≢◌, ◌<◌, ◌≤◌, �
 ghost use Rattle.nn_host.specs.Disk.{Look};
 ghost use Rattle.nn_host.specs.Calls.{Called, next_count};
 
+use crate::doing::{Doing, Verb};
 use crate::listing::Unlisted;
 use crate::paths::Place;
 use crate::segment::{self, Segment};
@@ -14,7 +15,8 @@ use std::rt::Files;
 
 /// The name directories at these paths, and the output of `rt`. It tells nothing.
 ///
-/// A call that the system refuses is `Failed`, and so is one that finds no memory for a path; an absent name is an answer.
+/// A call that the system refuses is `Failed`, and so is one that finds no memory for a path; an absent name is an answer. For each
+/// such call a line on the standard error of `rt` says to a person what was refused, where, and the system's error.
 /// A name that was made, renamed or removed lasts when the call returns. One program at a time is to use the folders.
 #[derive(Drop)]
 pub struct FileHost<R: Files> {
@@ -28,7 +30,7 @@ pub struct FileHost<R: Files> {
     ghost paired: { length segments.items ≡ length roots.items },
 }
 
-impl<R: Files + Print + Drop> FileHost<R> {
+impl<R: Files + Print + Eprint + Drop> FileHost<R> {
     ghost use Rattle.nn_files.specs.Untold.{untold_state, unfailed_state};
 
     /// The directories at these paths, numbered in their order. Nothing is looked at yet.
@@ -50,14 +52,32 @@ impl<R: Files + Print + Drop> FileHost<R> {
         })
     }
 
+    /// The paths of the directories, in their order.
+    pub fn paths(&self) -> &[String] {
+        &self.roots
+    }
+
+    /// Whether a call on directory `i` has failed.
+    pub fn has_failed(&self, i: DirNo) -> bool {
+        match self.faults.get(i.0 as usize) {
+            Some(count) => 0 < *count,
+            None => false,
+        }
+    }
+
     fn place(&self, i: DirNo) -> Place<'_, R>
         requires { i.0 < length self.now.roots.items }
     {
         Place::new(&self.rt, self.alloc, self.roots[i.0 as usize].as_str())
     }
 
-    // Raises the count of directory `i` where a call on it failed.
-    fn counted<T: Drop>(&mut self, i: DirNo, outcome: io::Result<T>) -> Result<T, Failed>
+    // Raises the count of directory `i` where a call on it failed, and tells a person of it.
+    fn counted<T: Drop>(
+        &mut self,
+        i: DirNo,
+        doing: Doing,
+        outcome: io::Result<T>,
+    ) -> Result<T, Failed>
         requires { i.0 < length self.old.roots.items }
         ensures ok { IfOk result (λ value. outcome ≡ Ok value) }
         ensures err { OnErr result (IsErr outcome) }
@@ -65,7 +85,8 @@ impl<R: Files + Print + Drop> FileHost<R> {
     {
         match outcome {
             Ok(value) => Ok(value),
-            Err(_) => {
+            Err(error) => {
+                doing.refused(&self.place(i), i, &error);
                 raise(&mut self.faults, i.0);
                 Err(Failed)
             }
@@ -83,7 +104,7 @@ fn raise(counts: &mut [u64; 8], i: u8)
 }
 
 #[tactic(auto, using(crate::proofs::UntoldLemmas::any_call))]
-impl<R: Files + Print + Drop> Host for FileHost<R> {
+impl<R: Files + Print + Eprint + Drop> Host for FileHost<R> {
     ghost use Rattle.nn_files.specs.Untold.{untold_state};
 
     ghost told = { ⊥ };
@@ -98,17 +119,17 @@ impl<R: Files + Print + Drop> Host for FileHost<R> {
 
     fn has_root(&mut self, i: DirNo) -> Result<bool, Failed> {
         let found = self.place(i).has_root();
-        self.counted(i, found)
+        self.counted(i, Doing::root(Verb::LookAt), found)
     }
 
     fn has_sub(&mut self, i: DirNo, sub: Sub) -> Result<bool, Failed> {
         let found = self.place(i).has_sub(sub);
-        self.counted(i, found)
+        self.counted(i, Doing::sub(Verb::LookAt, sub), found)
     }
 
     fn has_file(&mut self, i: DirNo, sub: Sub, name: FileName) -> Result<bool, Failed> {
         let found = self.place(i).has_file(sub, &name);
-        self.counted(i, found)
+        self.counted(i, Doing::file(Verb::LookAt, sub, &name), found)
     }
 
     fn list(&mut self, i: DirNo, sub: Sub, out: &mut Vec<FileName>) -> Result<(), ListFault> {
@@ -117,7 +138,7 @@ impl<R: Files + Print + Drop> Host for FileHost<R> {
             Err(Unlisted::Memory) => return Err(ListFault::Memory),
             Err(Unlisted::Failed(error)) => Err(error),
         };
-        match self.counted(i, listed) {
+        match self.counted(i, Doing::sub(Verb::List, sub), listed) {
             Ok(names) => match out.extend_from_slice(&names) {
                 Ok(()) => Ok(()),
                 Err(_) => Err(ListFault::Memory),
@@ -128,7 +149,7 @@ impl<R: Files + Print + Drop> Host for FileHost<R> {
 
     fn size(&mut self, i: DirNo, sub: Sub, name: FileName) -> Result<u64, Failed> {
         let size = self.place(i).size(sub, &name);
-        self.counted(i, size)
+        self.counted(i, Doing::file(Verb::LookAt, sub, &name), size)
     }
 
     fn read_at(
@@ -140,31 +161,33 @@ impl<R: Files + Print + Drop> Host for FileHost<R> {
         out: &mut [u8],
     ) -> Result<usize, Failed> {
         let count = self.place(i).read_at(sub, &name, at, out);
-        self.counted(i, count)
+        self.counted(i, Doing::file(Verb::Read, sub, &name), count)
     }
 
     fn make_sub(&mut self, i: DirNo, sub: Sub) -> Result<(), Failed> {
         let done = self.place(i).make_sub(sub);
-        self.counted(i, done)
+        self.counted(i, Doing::sub(Verb::Make, sub), done)
     }
 
     fn make_file(&mut self, i: DirNo, sub: Sub, name: FileName) -> Result<(), Failed> {
         segment::close_file(&mut self.segments[i.0 as usize], sub, &name);
         let done = self.place(i).make_file(sub, &name);
-        self.counted(i, done)
+        self.counted(i, Doing::file(Verb::Make, sub, &name), done)
     }
 
     fn append(&mut self, i: DirNo, sub: Sub, name: FileName, bytes: &[u8]) -> Result<(), Failed> {
+        let doing = Doing::file(Verb::WriteTo, sub, &name);
         let at = i.0 as usize;
         let place = Place::new(&self.rt, self.alloc, self.roots[at].as_str());
         let done = segment::append(&place, &mut self.segments[at], sub, name, bytes);
-        self.counted(i, done)
+        self.counted(i, doing, done)
     }
 
     fn sync(&mut self, i: DirNo, sub: Sub, name: FileName) -> Result<(), Failed> {
+        let doing = Doing::file(Verb::Sync, sub, &name);
         let segment = &self.segments[i.0 as usize];
         let done = segment::sync(&self.place(i), segment, sub, name);
-        self.counted(i, done)
+        self.counted(i, doing, done)
     }
 
     fn rename_file(
@@ -180,36 +203,38 @@ impl<R: Files + Print + Drop> Host for FileHost<R> {
             true => self.place(i).rename_written(sub, &from, &to),
             false => self.place(i).rename_file(sub, &from, &to),
         };
-        self.counted(i, done)
+        self.counted(i, Doing::file(Verb::Rename, sub, &from), done)
     }
 
     fn rename_sub(&mut self, i: DirNo, from: Sub, to: Sub) -> Result<(), Failed> {
         segment::close_sub(&mut self.segments[i.0 as usize], from);
         let done = self.place(i).rename_sub(from, to);
-        self.counted(i, done)
+        self.counted(i, Doing::sub(Verb::Rename, from), done)
     }
 
     fn remove_file(&mut self, i: DirNo, sub: Sub, name: FileName) -> Result<(), Failed> {
         segment::close_file(&mut self.segments[i.0 as usize], sub, &name);
         let done = self.place(i).remove_file(sub, &name);
-        self.counted(i, done)
+        self.counted(i, Doing::file(Verb::Remove, sub, &name), done)
     }
 
     fn remove_sub(&mut self, i: DirNo, sub: Sub) -> Result<(), Failed> {
         segment::close_sub(&mut self.segments[i.0 as usize], sub);
         let done = self.place(i).remove_sub(sub);
-        self.counted(i, done)
+        self.counted(i, Doing::sub(Verb::Remove, sub), done)
     }
 
     fn settle(&mut self, i: DirNo) -> Result<(), Failed> {
-        let done = self.place(i).settle();
-        self.counted(i, done)
+        let mut doing = Doing::root(Verb::Sync);
+        let done = self.place(i).settle(&mut doing);
+        self.counted(i, doing, done)
     }
 
     fn say(&mut self, bytes: &[u8]) -> Result<(), Failed> {
         match self.rt.write_all(bytes) {
             Ok(()) => Ok(()),
-            Err(_) => {
+            Err(error) => {
+                let _ = eprintln!(self.rt; "namenode: can't write to standard output: {error}");
                 self.out_faults = self.out_faults.saturating_add(1);
                 Err(Failed)
             }

@@ -1,8 +1,10 @@
 //! The host over real folders and the real output, with which folder each call syncs, and the source over standard input.
-//! Both tell nothing but their counts of faults, and know nothing of what the bytes mean.
+//! Both tell nothing but their counts of faults, and know nothing of what the bytes mean. What the system refuses they tell a person,
+//! on the standard error.
 #![tactic(auto)]
 
 mod changes;
+mod doing;
 mod host;
 mod listing;
 mod looks;

@@ -6,27 +6,30 @@ use nn_host::{Failed, Source};
 
 /// A script that comes by the standard input of `rt`. It tells nothing.
 ///
-/// A read that the system refuses is `Failed`; one that a signal interrupts is tried again. A read may give fewer bytes
-/// than there are.
+/// A read that the system refuses is `Failed`, and a line on the standard error of `rt` says to a person why; one that a signal
+/// interrupts is tried again. A read may give fewer bytes than there are.
 #[derive(Drop)]
 pub struct StdSource<R: Input> {
+    rt: R,
     reader: R::Reader,
     faults: u64,
 }
 
-impl<R: Input + Drop> StdSource<R> {
+impl<R: Input + Eprint + Drop> StdSource<R> {
     /// The standard input of `rt`, from where it stands. Nothing is read yet.
-    pub fn new(rt: &R) -> StdSource<R>
+    pub fn new(rt: R) -> StdSource<R>
         ensures { ⟦<StdSource<R> as Source>⟧.faults result ≡ 0 }
     {
+        let reader = rt.reader();
         StdSource {
-            reader: rt.reader(),
+            rt,
+            reader,
             faults: 0,
         }
     }
 }
 
-impl<R: Input + Drop> Source for StdSource<R> {
+impl<R: Input + Eprint + Drop> Source for StdSource<R> {
     ghost told = { ⊥ };
 
     ghost left = { λ it. [] };
@@ -36,7 +39,8 @@ impl<R: Input + Drop> Source for StdSource<R> {
     fn take(&mut self, out: &mut [u8]) -> Result<usize, Failed> {
         match read_some(&mut self.reader, out) {
             Ok(count) => Ok(count),
-            Err(_) => {
+            Err(error) => {
+                let _ = eprintln!(self.rt; "namenode: can't read standard input: {error}");
                 self.faults = self.faults.saturating_add(1);
                 Err(Failed)
             }

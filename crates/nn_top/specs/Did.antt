@@ -8,7 +8,7 @@ use Rattle.nn_server.specs.Came.{TouchesNoDir}
 use Rattle.nn_server.specs.States.{StateRan, state_status}
 use Rattle.nn_server.specs.Format.{FormatRan, format_status}
 use Rattle.nn_server.specs.Dry.{DryRan}
-use Rattle.nn_server.specs.Codes.{code_of, dry_status}
+use Rattle.nn_server.specs.Codes.{dry_status}
 use Rattle.nn_top.specs.Wanted.{Wanted, States, Format, Dry, Run}
 use Rattle.nn_top.specs.Closes.{Closes}
 use Rattle.nn_top.specs.Ended.{Ended}
@@ -26,7 +26,3 @@ Did told told_source left faults (Format cluster namespace dirs) before after ol
     (after ≡ before) × Ended told old new format_status (λ lines trace. FormatRan told cluster namespace old new lines) result
 Did told told_source left faults Dry before after old new result = Ended told old new dry_status (DryRan told told_source (left before) (left after) (faults before) (faults after) old new) result
 Did told told_source left faults (Run at dirs) before after old new result = RunDid told told_source at (left before) (left after) (faults before) (faults after) old new result
-
--- this is the exit code of a status that a run ended with of which this is told
-abbrev pub ExitsAs : (Status → Type 0) → ℕ → Type 0
-ExitsAs Ends code = (status : Status) × (code ≡ code_of status) × Ends status

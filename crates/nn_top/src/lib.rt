@@ -7,7 +7,7 @@ pub mod laws;
 mod run;
 mod words;
 
-pub use exit::exit_code;
+pub use exit::{Exit, exit_code};
 pub use nn_server::Status;
 pub use run::namenode;
 pub use words::{Command, WordsFault, command_of, dirs_of};

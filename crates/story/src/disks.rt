@@ -92,7 +92,7 @@ fn run_words(
     if command.dirs().len() != host.count() as usize {
         return Err(Broken::Plot);
     }
-    let _status = exit_code(alloc, words, source, host);
+    let _exit = exit_code(alloc, words, source, host);
     Ok(())
 }
 

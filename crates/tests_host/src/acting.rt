@@ -27,7 +27,7 @@ pub fn made_root<R: Files + Env + Alloc>(
 }
 
 /// A host with the one directory at this path.
-pub fn host_of<R: Files + Print + Drop>(
+pub fn host_of<R: Files + Print + Eprint + Drop>(
     rt: R,
     alloc: Global,
     root: &str,

@@ -86,7 +86,7 @@ fn stretch<R: Files>(rt: &R, alloc: Global, root: &str, name: &str, size: u64) -
 }
 
 // The last id that the folder opens to, or why it doesn't; None where it doesn't read as before.
-fn opened<R: Files + Print + Drop>(
+fn opened<R: Files + Print + Eprint + Drop>(
     rt: R,
     alloc: Global,
     root: &str,

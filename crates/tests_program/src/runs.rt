@@ -412,7 +412,7 @@ fn run_words(
 ) -> u8 {
     if let Some(command) = command_of(words) {
         assert!(rt; command.dirs().len() == host.count() as usize);
-        return exit_code(alloc, words, source, host);
+        return exit_code(alloc, words, source, host).code;
     }
-    exit_code(alloc, words, source, host)
+    exit_code(alloc, words, source, host).code
 }

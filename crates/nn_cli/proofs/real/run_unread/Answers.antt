@@ -13,4 +13,4 @@ pub returns : goal.returns
 returns g c = exits_starved (texts c.args.words.now) c.starved.result c.starved.ensures
 
 pub returns-in-Ok : goal.returns-in-Ok
-returns-in-Ok g c = exits_unread (texts c.args.words.now) c.exit_code.result c.requires (c.in-Ok.ensures ∙ ap (λ (items : List (String _)). unfailed_state (length items)) c.new.ensures.items) (c.exit_code.ensures.usage c.requires).1
+returns-in-Ok g c = exits_unread (texts c.args.words.now) c.exit_code.result.code c.requires (c.in-Ok.ensures ∙ ap (λ (items : List (String _)). unfailed_state (length items)) c.new.ensures.items) (c.exit_code.result.status, c.exit_code.ensures.code, (c.exit_code.ensures.usage c.requires).1)
