@@ -74,6 +74,8 @@ class Place:
     def __init__(self, program):
         self.program = program
         self.path = tempfile.mkdtemp(prefix="rows.")
+        # What the last call told a person, on standard error.
+        self.told = ""
 
     def at(self, *names):
         return os.path.join(self.path, *names)
@@ -81,13 +83,21 @@ class Place:
     def call(self, words, script="", **more):
         """What the words say, with the names of directories taken below this folder, and their status."""
         more.setdefault("stdout", subprocess.PIPE)
+        more.setdefault("stderr", subprocess.PIPE)
         if "stdin" not in more:
             more["input"] = script.encode() if isinstance(script, str) else script
-        done = subprocess.run([self.program, *words.split()], cwd=self.path, **more)
+        words = words.split() if isinstance(words, str) else words
+        done = subprocess.run([self.program, *words], cwd=self.path, **more)
+        self.told = (done.stderr or b"").decode()
         return (done.stdout or b"").decode(), done.returncode
 
     def says(self, words, script, said, status=0, **more):
         same(f"`{words}`", self.call(words, script, **more), ("".join(line + "\n" for line in said.split("|") if line), status))
+
+    def tells(self, words, script, told, said, status, **more):
+        """The same, and what is told a person, a line each; of words without a reading the first line, and the forms of the command."""
+        self.says(words, script, said, status, **more)
+        same(f"what `{words}` tells", self.told, "".join(line + "\n" for line in told.split("|") if line))
 
     def formatted(self, names, namespace=7):
         for name in names.split():
@@ -119,7 +129,8 @@ class Place:
         return [*words, "-e", f"inject={call}:error={error}:when={when}", self.program]
 
     def says_failing(self, failing, words, script, said, status=0):
-        done = subprocess.run([*failing, *words.split()], cwd=self.path, input=script.encode(), stdout=subprocess.PIPE)
+        done = subprocess.run([*failing, *words.split()], cwd=self.path, input=script.encode(), stdout=subprocess.PIPE, stderr=subprocess.PIPE)
+        self.told = done.stderr.decode()
         same(f"`{words}`", (done.stdout.decode(), done.returncode), ("".join(line + "\n" for line in said.split("|")), status))
 
 
@@ -372,7 +383,14 @@ class Talk:
 
     def __init__(self, place, words, **more):
         self.child = subprocess.Popen(
-            [place.program, *words.split()], cwd=place.path, stdin=subprocess.PIPE, stdout=subprocess.PIPE, text=True, bufsize=1, **more
+            [place.program, *words.split()],
+            cwd=place.path,
+            stdin=subprocess.PIPE,
+            stdout=subprocess.PIPE,
+            stderr=subprocess.PIPE,
+            text=True,
+            bufsize=1,
+            **more,
         )
         self.hears("started 0")
 
@@ -387,6 +405,7 @@ class Talk:
     def ends(self):
         self.child.stdin.close()
         rest = self.child.stdout.read()
+        self.told = self.child.stderr.read()
         return rest, self.child.wait()
 
 
@@ -468,7 +487,7 @@ def a_segment_is_never_the_output_where_descriptors_are_closed(place):
         # By a shell, since Python itself needs the descriptors that it hands on.
         closing = " ".join(f"{number}{'<' if number == 0 else '>'}&-" for number in closed)
         command = f'"$0" run {name} {closing}'
-        done = subprocess.run(["sh", "-c", command, place.program], cwd=place.path, input=b"mkdir /a\n", stdout=subprocess.PIPE)
+        done = subprocess.run(["sh", "-c", command, place.program], cwd=place.path, input=b"mkdir /a\n", stdout=subprocess.PIPE, stderr=subprocess.DEVNULL)
         wanted = "".join(line + "\n" for line in said.split("|") if line)
         same(f"`{command}`", (done.stdout.decode(), done.returncode), (wanted, status))
         for file in os.listdir(place.at(name, "current")):
@@ -478,6 +497,155 @@ def a_segment_is_never_the_output_where_descriptors_are_closed(place):
                 ends = [end for _, _, _, end in reader.records_of(data, first)]
                 same(f"what stands behind the records of {file}", data[ends[-1] :], b"")
         place.says(f"run {name}", "", f"started {last}|stopped")
+
+
+# A person at the terminal. Where one of these lines can't be written, nothing changes.
+
+FORMS = {
+    "state": "namenode state DIR..",
+    "format": "namenode format --cluster C --namespace N DIR..",
+    "dry": "namenode dry < SCRIPT",
+    "run": "namenode run [--at T] DIR.. < SCRIPT",
+}
+EVERY_FORM = "\n       ".join(FORMS.values())
+
+# Words without a reading, and what is told of them first.
+UNREAD = (
+    ((), "a command is missing"),
+    (("--help",), "unrecognized command '--help'"),
+    (("help",), "unrecognized command 'help'"),
+    (("fly", "A"), "unrecognized command 'fly'"),
+    (("run",), "the following required arguments were not provided:\n  <DIR>..."),
+    (("run", "--help"), "unexpected argument '--help' found\n\n  tip: to pass '--help' as a value, use '-- --help'"),
+    (("run", "A", "A"), "the directory 'A' is given twice"),
+    (("run", "A", ""), "a directory is an empty word"),
+    (("run", *"ABCDEFGHI"), "the directory 'I' is one too many: there are at most 8"),
+    (("run", "A", "--at", "5", "B"), "the directory 'B' stands apart from those before it: no option and no '--' may stand between"),
+    (("run", "A", "--", "B"), "the directory 'B' stands apart from those before it: no option and no '--' may stand between"),
+    (("run", "--at", "1", "--at=2", "A"), "the argument '--at <T>' cannot be used multiple times"),
+    (("run", "--at", "-5", "A"), "'--at' takes a value, and '-5' behind it begins with '-'"),
+    (("run", "--at=-5", "A"), "'--at' takes milliseconds, from 0 to 9223372036854775807, and not '-5'"),
+    (("run", "A", "--at"), "'--at' takes a value, and no word stands behind it"),
+    (("run", "--batch=0", "A"), "unexpected argument '--batch' found\n\n  tip: a similar argument exists: '--at'"),
+    (("state", "-x"), "unexpected argument '-x' found\n\n  tip: to pass '-x' as a value, use '-- -x'"),
+    (("dry", "A"), "unexpected argument 'A' found"),
+    (("format", "--cluster", "c1", "A"), "the following required arguments were not provided:\n  --namespace <N>"),
+    (("format", "--cluster", "-", "--namespace", "7", "A"), "'--cluster' takes a value, and '-' behind it begins with '-'"),
+    (("format", "--cluster=a b", "--namespace", "7", "A"), "'--cluster' takes 1 to 255 bytes that print, without spaces, and not 'a b'"),
+    (("format", "--cluster", "c1", "--namespace=0", "A"), "'--namespace' takes a number from 1 to 2147483647, and not '0'"),
+)
+
+
+@row
+def words_without_a_reading_are_explained_with_the_forms_of_their_command(place):
+    for words, told in UNREAD:
+        form = FORMS.get(words[0] if words else "", EVERY_FORM)
+        same(f"`{words}`", place.call(words), ("usage\n", 1))
+        same(f"what `{words}` tells", place.told, f"error: {told}\n\nUsage: {form}\n")
+    same("a word that isn't UTF-8", place.call([b"run", b"\xff"]), ("usage\n", 1))
+    same("what it tells", place.told.split("\n")[0], "namenode: a word isn't UTF-8")
+    same("what is there", os.listdir(place.path), [])
+
+
+@row
+def a_refusal_is_explained_by_the_path_and_what_helps(place):
+    about = "namenode: directory {} is {}: {}".format
+    os.mkdir(place.at("A"))
+    missing = about(1, "Z", "no folder stands there; make it, or mount its file system")
+    place.tells("state A Z", "", missing, "0 NOT_FORMATTED|1 NON_EXISTENT|refused missing 1", 2)
+    place.tells("run A Z", "", missing, "refused missing 1", 2)
+    nothing = "namenode: no directory holds a namespace; if you want a new one, use `namenode format`"
+    place.tells("run A", "", nothing, "refused not-formatted", 2)
+    place.formatted("A B")
+    held = about(0, "A", "it holds a namespace already; leave it out, or give an empty folder in its place")
+    place.tells("format --cluster c1 --namespace 7 A B", "", held, "refused formatted 0", 2)
+    place.formatted("C", 8)
+    other = about(0, "A", "it holds one namespace") + "|" + about(1, "C", "it holds another, by its namespaceID; leave one of the two out")
+    place.tells("run A C", "", other, "refused mismatch 0 1 namespaceID", 2)
+    place.write("A/current/VERSION", b"")
+    unread = about(1, "A", "its VERSION doesn't read; give an empty folder in its place, beside a directory that is whole")
+    place.tells("run B A", "", unread, "refused bad-version 1", 2)
+    os.mkdir(place.at("A/previous.tmp"))
+    os.mkdir(place.at("A/removed.tmp"))
+    mixed = about(1, "A", "no operation leaves its folders so; keep it as it is, and run over the others")
+    place.tells("run B A", "", mixed, "refused inconsistent 1 several-tmp", 2)
+    place.write(f"B/current/{image(0)}", b"")
+    damaged = about(0, "B", "its newest image is damaged or gone, and so are the older ones; bring one with its MD5 file from a copy")
+    place.tells("run B", "", damaged, "refused no-image 0 digest", 2)
+
+
+@row
+def a_lost_segment_is_explained_by_the_records_that_are_missing(place):
+    place.formatted("A")
+    place.write("A/current/seen_txid", b"9\n")
+    told = "namenode: the records behind 0 are lost, up to 8 at least: run over all directories of the last run, or bring the missing segment back from a copy"
+    place.tells("run A", "", told, "refused gap 9 0", 2)
+
+
+@row
+def a_failed_call_is_told_with_its_path_and_the_error_of_the_system(place):
+    place.formatted("A B")
+    os.mkdir(place.at("B/current/seen_txid.tmp"))
+    told = "namenode: directory 1: can't make B/current/seen_txid.tmp: entity already exists"
+    mend = "namenode: directory 1 is B: no line of the script was read; mend it and run the same again"
+    place.tells("run A B", "mkdir /a\n", f"{told}|{mend}", "fault 1", 3)
+    os.mkdir(place.at("Q"))
+    place.write("Q/current", b"")
+    told = "namenode: directory 0: can't make Q/current: File exists (os error 17)"
+    mend = "namenode: directory 0 is Q: mend it; `namenode state` tells which directories are formatted, the others can be formatted again"
+    place.tells("format --cluster c1 --namespace 7 Q", "", f"{told}|{mend}", "fault 0", 3)
+
+
+@row
+def a_directory_is_told_of_as_it_is_dropped_and_again_at_the_end(place):
+    place.formatted("A B")
+    talk = Talk(place, "run A B")
+    talk.asks("mkdir /a", "ok")
+    os.rename(place.at("B"), place.at("gone"))
+    talk.asks("roll", "ok")
+    dropped = f"namenode: directory 1: can't rename B/current/{in_progress(1)}: entity not found\n"
+    same("what is told at once", talk.child.stderr.readline(), dropped)
+    same("the end", talk.ends(), ("stopped\n", 0))
+    left = "namenode: directory 1 is B: it failed and was left out; once it works, run over all of these directories again\n"
+    same("what is told at the end", talk.told, left)
+
+
+@row
+def two_paths_to_one_folder_are_warned_of_before_anything_is_done(place):
+    place.formatted("A B")
+    os.symlink("B", place.at("link"))
+    warns = "namenode: warning: directories {} and {}, {} and {}, are one folder: what a run writes there is lost".format
+    place.tells("state A ./A", "", warns(0, 1, "A", "./A"), "0 NORMAL|1 NORMAL", 0)
+    place.tells("state link A B", "", warns(0, 2, "link", "B"), "0 NORMAL|1 NORMAL|2 NORMAL", 0)
+    talk = Talk(place, "run B link")
+    same("what is told before the first line", talk.child.stderr.readline(), warns(0, 1, "B", "link") + "\n")
+    talk.ends()
+
+
+@row
+def an_input_or_an_output_that_fails_is_told_with_the_error_of_the_system(place):
+    place.formatted("A")
+    folder = os.open(place.path, os.O_RDONLY)
+    told = "namenode: can't read standard input: Is a directory (os error 21)"
+    place.tells("run A", None, told, "started 0|source fault", 5, stdin=folder)
+    os.close(folder)
+    with open("/dev/full", "wb") as full:
+        told = "namenode: can't write to standard output: No space left on device (os error 28)"
+        place.tells("dry", "list /\n", told, "", 8, stdout=full)
+    long = "namenode: a script has at most 67108864 bytes; what was answered was done, and the rest wants a run of its own"
+    place.tells("dry", "\n" * (2**26 + 1), long, "script too long", 6)
+
+
+@row
+def what_cannot_be_told_changes_nothing(place):
+    place.formatted("A")
+    read, write = os.pipe()
+    os.close(read)
+    with open("/dev/full", "wb") as full, open(write, "wb") as unread:
+        for err in (full, unread, subprocess.DEVNULL):
+            place.says("run A A", "", "usage", 1, stderr=err)
+            place.says("format --cluster c1 --namespace 7 A", "", "refused formatted 0", 2, stderr=err)
+            place.says("state A ./A", "", "0 NORMAL|1 NORMAL", 0, stderr=err)
 
 
 def main(words):
