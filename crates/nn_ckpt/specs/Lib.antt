@@ -1,0 +1,4 @@
+pub mod Retention
+pub mod Each
+pub mod Checkpointed
+pub mod Laws
