@@ -1,8 +1,7 @@
 #!/bin/sh
-# The speed of nn_image over the plain tree beside plain C: images of directories of a hundred files with a block each, written and read.
+# The speed of nn_image over the linked tree beside plain C: images of directories of a hundred files with a block each, written and read.
 # Wants a C compiler. The arguments are how many files, 100 3000 10000 30000 without them.
-# The plain tree takes time with the number of its nodes for each of them, and the codec doesn't. The line `walk` is one walk
-# over the tree by itself: a writer makes three, and goes once over the children of each directory.
+# The line `walk` is one walk over the tree by itself: a writer makes three, and goes once over the children of each directory.
 set -eu
 cd "$(dirname "$0")/.."
 [ $# -gt 0 ] || set -- 100 3000 10000 30000

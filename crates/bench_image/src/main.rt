@@ -1,4 +1,4 @@
-//! The speed of images over the plain tree: the image in the file that is the one argument is read, its tree is walked
+//! The speed of images over the linked tree: the image in the file that is the one argument is read, its tree is walked
 //! once, and the image is written again. On standard output a line each: what was done, how many bytes and nodes, and the
 //! nanoseconds of processor time for a node. Without an argument nothing is done.
 #![tactic(auto)]
