@@ -4,3 +4,4 @@ pub mod EscapeLemmas
 pub mod ReadingLemmas
 pub mod SpacedLemmas
 pub mod PrintingLemmas
+pub mod GapLemmas

@@ -1,5 +1,5 @@
 // Reads a line.
-ghost use Rattle.std.specs.Prelude.{◌≡◌, ◌≢◌, ◌==◌, ◌<◌, ◌^◌, IfOk, IfErr, IfSome, length};
+ghost use Rattle.std.specs.Prelude.{◌≡◌, ◌≢◌, ◌==◌, ◌<◌, ◌^◌, true, false, IfOk, IfErr, IfSome, length};
 ghost use Rattle.std.specs.List.{list_all, list_any};
 ghost use Rattle.std.specs.Option.{option_copied};
 ghost use Rattle.nn_base.specs.Limits.{IsLong};
@@ -53,27 +53,58 @@ fn command_on(alloc: Global, line: &[u8]) -> Result<ScriptCommand, Syntax>
     if MOST_LINE < line.len() {
         return Err(Syntax::Long);
     }
-    if !is_text(line) {
-        return Err(Syntax::Byte);
-    }
-    if has_empty_word(line) {
-        return Err(Syntax::Words);
+    match look_at(line) {
+        Look::NoText => return Err(Syntax::Byte),
+        Look::EmptyWord => return Err(Syntax::Words),
+        Look::Words => (),
     }
     let (word, rest) = first_word(line);
     let verb = Verb::of(word).ok_or(Syntax::Unknown)?;
     command_by(alloc, verb, rest)
 }
 
+// What a line is, before its words are read.
+#[derive(Clone, Copy)]
+enum Look {
+    // It has another byte than a space and those that ASCII prints.
+    NoText,
+    // Of its words one is empty.
+    EmptyWord,
+    Words,
+}
+
+// A line is looked at in one pass: an empty word is a space behind another, at the begin or at the end.
+fn look_at(line: &[u8]) -> Look
+    ensures bytes { result ≡ Look.NoText → list_all is_line_byte line.now ≡ false }
+    ensures text { result ≢ Look.NoText → list_all is_line_byte line.now ≡ true }
+    ensures empty { result ≡ Look.EmptyWord → list_any (λ word. length word == 0) (words line.now) ≡ true }
+    ensures full { result ≡ Look.Words → list_any (λ word. length word == 0) (words line.now) ≡ false }
+{
+    let mut last = b' ';
+    for i in 0..line.len() {
+        let byte = line[i];
+        if byte < b' ' || b'~' < byte {
+            return Look::NoText;
+        }
+        if byte == b' ' && last == b' ' {
+            if is_text(&line[i..]) {
+                return Look::EmptyWord;
+            }
+            return Look::NoText;
+        }
+        last = byte;
+    }
+    if last == b' ' {
+        Look::EmptyWord
+    } else {
+        Look::Words
+    }
+}
+
 fn is_text(line: &[u8]) -> bool
     ensures { result ≡ list_all is_line_byte line.now }
 {
     line.iter().all(|byte| b' ' <= *byte && *byte <= b'~')
-}
-
-fn has_empty_word(line: &[u8]) -> bool
-    ensures { result ≡ list_any (λ word. length word == 0) (words line.now) }
-{
-    line.split(|byte| *byte == b' ').any(|word| word.is_empty())
 }
 
 fn command_by(alloc: Global, verb: Verb, rest: Option<&[u8]>) -> Result<ScriptCommand, Syntax>
