@@ -2,6 +2,7 @@
 use nn_files::{Reserved, StdSource};
 use nn_host::{Failed, Source};
 use std::alloc::Allocator;
+use std::fmt::Display;
 use std::io;
 use std::io::{BufRead, ErrorKind, Lines, Read};
 use std::test::Fail;
@@ -49,6 +50,17 @@ impl Input for Shaky {
 
     fn reader(&self) -> ShakyReader {
         ShakyReader(0)
+    }
+}
+
+// What is told of a refused read can't be written, which changes nothing.
+impl Eprint for Shaky {
+    fn eprint<D: Display + Drop>(&self, _: D) -> io::Result<()> {
+        Err(ErrorKind::BrokenPipe.into())
+    }
+
+    fn eprintln<D: Display + Drop>(&self, _: D) -> io::Result<()> {
+        Err(ErrorKind::BrokenPipe.into())
     }
 }
 

@@ -205,3 +205,13 @@ impl<'a, R: Print> Print for Recorder<'a, R> {
         self.rt.write_all(bytes)
     }
 }
+
+impl<'a, R: Eprint> Eprint for Recorder<'a, R> {
+    fn eprint<D: Display + Drop>(&self, value: D) -> io::Result<()> {
+        self.rt.eprint(value)
+    }
+
+    fn eprintln<D: Display + Drop>(&self, value: D) -> io::Result<()> {
+        self.rt.eprintln(value)
+    }
+}

@@ -158,7 +158,7 @@ fn a_segment_that_someone_took_away_fails_as_it_gets_its_last_name(
 
 // The changes and syncs of a call after those before it, in a folder of its own, and its answer. So many are done before one
 // fails.
-fn recorded<R: Files + Env + Alloc + Abort + Print>(
+fn recorded<R: Files + Env + Alloc + Abort + Print + Eprint>(
     rt: &R,
     alloc: Global,
     process: u32,
