@@ -4,6 +4,7 @@ ghost use Rattle.nn_record.specs.Ops.{IsOp};
 ghost use Rattle.nn_quota.specs.Quotas.{IsQuota};
 ghost use Rattle.nn_ops.specs.Commands.{IsCommand};
 
+use nn_arena::ArenaTree;
 use nn_base::{Label, Name, Path};
 use nn_ops::{Clash, Command, OpRefusal, apply, prepare, replay};
 use nn_quota::{Quota, Usage};
@@ -139,6 +140,7 @@ fn a_quota_of_names_counts_the_directory_itself(rt: HostRuntime) -> Result<(), F
         (Ask::Mkdir("/q/a"), Some(OpRefusal::Quota)),
     ];
     answers::<PlainTree>(&rt, rt.alloc(), &rows)?;
+    answers::<ArenaTree>(&rt, rt.alloc(), &rows)?;
     Ok(())
 }
 
@@ -161,6 +163,7 @@ fn quotas_of_what_moves_move_along_and_those_above_are_held(rt: HostRuntime) -> 
         (Ask::Rename("/h", "/q/h"), Some(OpRefusal::Quota)),
     ];
     answers::<PlainTree>(&rt, rt.alloc(), &rows)?;
+    answers::<ArenaTree>(&rt, rt.alloc(), &rows)?;
     Ok(())
 }
 
@@ -189,6 +192,7 @@ fn each_refusal_is_the_first_that_applies(rt: HostRuntime) -> Result<(), Fail> {
         (Ask::Delete("/f"), Some(OpRefusal::NotFound)),
     ];
     answers::<PlainTree>(&rt, rt.alloc(), &rows)?;
+    answers::<ArenaTree>(&rt, rt.alloc(), &rows)?;
     Ok(())
 }
 
@@ -202,19 +206,17 @@ fn found<T: Tree>(rt: &impl Abort, alloc: Global, tree: &T, text: &str) -> Resul
     }
 }
 
-#[test]
-fn a_file_gets_the_group_of_its_directory_and_the_next_numbers(
-    rt: HostRuntime,
-) -> Result<(), Fail> {
+/// Makes `/a` of the group `g`, and a file with a block in it.
+fn make_in_a_group<T: Tree>(rt: &impl Abort, alloc: Global) -> Result<(), Fail> {
     let rows = [
         (Ask::Mkdir("/a"), DONE),
         (Ask::Chown("/a"), DONE),
         (Ask::Create("/a/f", 2), DONE),
         (Ask::Block("/a/f", 5), DONE),
     ];
-    let tree: PlainTree = answers(&rt, rt.alloc(), &rows)?;
-    let a = found(&rt, rt.alloc(), &tree, "/a")?;
-    let f = found(&rt, rt.alloc(), &tree, "/a/f")?;
+    let tree: T = answers(rt, alloc, &rows)?;
+    let a = found(rt, alloc, &tree, "/a")?;
+    let f = found(rt, alloc, &tree, "/a/f")?;
     assert_eq!(rt;
         tree.usage(a),
         Usage {
@@ -254,9 +256,17 @@ fn a_file_gets_the_group_of_its_directory_and_the_next_numbers(
 }
 
 #[test]
+fn a_file_gets_the_group_of_its_directory_and_the_next_numbers(
+    rt: HostRuntime,
+) -> Result<(), Fail> {
+    make_in_a_group::<PlainTree>(&rt, rt.alloc())?;
+    make_in_a_group::<ArenaTree>(&rt, rt.alloc())
+}
+
+#[test]
 fn a_name_of_255_bytes_is_made(rt: HostRuntime) -> Result<(), Fail> {
     let alloc = rt.alloc();
-    let mut tree = PlainTree::new(alloc)?;
+    let mut tree = ArenaTree::new(alloc)?;
     let bytes = vec![in alloc; b'a'; 255]?;
     let mut names = Vec::new(alloc);
     names.push(Name::of(alloc, &bytes)?.ok_or("a name")?)?;
@@ -279,15 +289,20 @@ fn made_a(alloc: Global) -> Result<Op, Fail>
     })
 }
 
-#[test]
-fn a_body_is_done_where_its_command_would_write_it(rt: HostRuntime) -> Result<(), Fail> {
-    let alloc = rt.alloc();
-    let mut tree = PlainTree::new(alloc)?;
+/// Makes `/a` by its body, and the second time not.
+fn replay_twice<T: Tree>(rt: &impl Abort, alloc: Global) -> Result<(), Fail> {
+    let mut tree = T::new(alloc)?;
     let op = made_a(alloc)?;
     assert!(rt; replay(alloc, &mut tree, &op) == Ok(()));
-    let a = found(&rt, alloc, &tree, "/a")?;
+    let a = found(rt, alloc, &tree, "/a")?;
     assert_eq!(rt; tree.node(a).id, 16386);
     assert!(rt; replay(alloc, &mut tree, &op) == Err(Clash::Refused));
     assert_eq!(rt; tree.counters().inode, 16386);
     Ok(())
+}
+
+#[test]
+fn a_body_is_done_where_its_command_would_write_it(rt: HostRuntime) -> Result<(), Fail> {
+    replay_twice::<PlainTree>(&rt, rt.alloc())?;
+    replay_twice::<ArenaTree>(&rt, rt.alloc())
 }

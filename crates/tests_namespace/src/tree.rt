@@ -7,6 +7,7 @@ ghost use Rattle.nn_tree.specs.Nodes.{blocks_of};
 ghost use Rattle.nn_tree.specs.Spots.{IsSound};
 ghost use Rattle.nn_tree.specs.Below.{entries_below};
 
+use nn_arena::ArenaTree;
 use nn_base::{Label, Name, NoMemory, Path};
 use nn_quota::{Quota, Usage};
 use nn_tree::{Block, Blocks, Change, Kind, Node, PlainTree, Spot, Tree, Walk, next_below};
@@ -262,7 +263,9 @@ fn fill_a_file<T: Tree>(rt: &impl Abort, alloc: Global, label: Label) -> Result<
 fn nodes_keep_their_spots_and_count_where_they_are(rt: HostRuntime) -> Result<(), Fail> {
     let label = Label::of(b"hdfs").ok_or("a label")?;
     move_a_directory::<PlainTree>(&rt, rt.alloc(), label)?;
-    fill_a_file::<PlainTree>(&rt, rt.alloc(), label)
+    move_a_directory::<ArenaTree>(&rt, rt.alloc(), label)?;
+    fill_a_file::<PlainTree>(&rt, rt.alloc(), label)?;
+    fill_a_file::<ArenaTree>(&rt, rt.alloc(), label)
 }
 
 /// The ids of the nodes at and below a spot, in the order of a walk.
@@ -316,5 +319,36 @@ fn walk_in_order<T: Tree>(rt: &impl Abort, alloc: Global, label: Label) -> Resul
 #[test]
 fn a_walk_follows_the_order_of_paths(rt: HostRuntime) -> Result<(), Fail> {
     let label = Label::of(b"hdfs").ok_or("a label")?;
-    walk_in_order::<PlainTree>(&rt, rt.alloc(), label)
+    walk_in_order::<PlainTree>(&rt, rt.alloc(), label)?;
+    walk_in_order::<ArenaTree>(&rt, rt.alloc(), label)
+}
+
+fn names_below_root<T: Tree>(rt: &impl Abort, alloc: Global, tree: &T) -> u64 {
+    let root = found(rt, tree, &Path::root(alloc));
+    tree.usage(root).names
+}
+
+/// Makes 5,000 directories below the root and a hundred files in each, and asks for the usage of the root after each.
+fn fill_widely<T: Tree>(rt: &impl Abort, alloc: Global, label: Label) -> Result<(), Fail> {
+    let mut tree = T::new(alloc)?;
+    for d in 0..5_000u64 {
+        let dir = format!(in alloc; "d{d}")?;
+        let at = path(alloc, &[dir.as_bytes()])?;
+        make(rt, alloc, &mut tree, &at, directory(20_000 + d, label))?;
+        assert_eq!(rt; names_below_root(rt, alloc, &tree), 101 * d + 2);
+        for f in 0..100u64 {
+            let name = format!(in alloc; "f{f}")?;
+            let at = path(alloc, &[dir.as_bytes(), name.as_bytes()])?;
+            make(rt, alloc, &mut tree, &at, file(alloc, 30_000 + f, label))?;
+            assert_eq!(rt; names_below_root(rt, alloc, &tree), 101 * d + f + 3);
+        }
+    }
+    assert_eq!(rt; names_below_root(rt, alloc, &tree), 505_001);
+    Ok(())
+}
+
+#[test]
+fn the_usage_of_the_root_is_told_after_each_of_505_000_names(rt: HostRuntime) -> Result<(), Fail> {
+    let label = Label::of(b"hdfs").ok_or("a label")?;
+    fill_widely::<ArenaTree>(&rt, rt.alloc(), label)
 }
