@@ -5,10 +5,10 @@ use Rattle.std.proofs.Math.Dec.{eqb-suc-zero}
 use Rattle.nn_base.specs.Paths.{Bytes}
 use Rattle.nn_script.specs.Words.{words}
 
--- last is the byte before the text
-abbrev pub has_gap : ℕ → Bytes → Bool
-has_gap last [] = last == 32
-has_gap last (byte ∷ rest) = (byte == 32 && last == 32) || has_gap byte rest
+-- whether a word begins where the text does
+abbrev pub has_gap : Bool → Bytes → Bool
+has_gap fresh [] = fresh
+has_gap fresh (byte ∷ rest) = (byte == 32 && fresh) || has_gap (byte == 32) rest
 
 abbrev is_empty : Bytes → Bool
 is_empty word = length word == 0
@@ -27,21 +27,21 @@ behind_first x [] = refl
 behind_first x (piece ∷ pieces) = refl
 
 record Gaps (line : Bytes) : Type 0 where
-  within : (last : ℕ) → (last == 32) ≡ false → has_gap last line ≡ list_any is_empty (behind (words line))
-  fresh : (last : ℕ) → (last == 32) ≡ true → has_gap last line ≡ list_any is_empty (words line)
+  within : has_gap false line ≡ list_any is_empty (behind (words line))
+  fresh : has_gap true line ≡ list_any is_empty (words line)
 
 gaps : (line : Bytes) → Gaps line
-gaps [] = record { within = λ last e. e; fresh = λ last e. e }
+gaps [] = record { within = refl; fresh = refl }
 gaps (x ∷ xs) = let rest = gaps xs in record {
-  within = λ last e. elim (x == 32) as (λ b. (x == 32) ≡ b → ((b && last == 32) || has_gap x xs) ≡ list_any is_empty (behind (cond b ([] ∷ words xs) (onto_first x (words xs))))) [
-    | true ↦ λ is. ap (λ b. b || has_gap x xs) e ∙ rest.fresh x is
-    | false ↦ λ isnt. rest.within x isnt ∙ sym (behind_first x (words xs))
-  ] refl;
-  fresh = λ last e. elim (x == 32) as (λ b. (x == 32) ≡ b → ((b && last == 32) || has_gap x xs) ≡ list_any is_empty (cond b ([] ∷ words xs) (onto_first x (words xs)))) [
-    | true ↦ λ is. ap (λ b. b || has_gap x xs) e
-    | false ↦ λ isnt. rest.within x isnt ∙ sym (grown x (words xs))
-  ] refl;
+  within = elim (x == 32) as (λ b. ((b && false) || has_gap b xs) ≡ list_any is_empty (behind (cond b ([] ∷ words xs) (onto_first x (words xs))))) [
+    | true ↦ rest.fresh
+    | false ↦ rest.within ∙ sym (behind_first x (words xs))
+  ];
+  fresh = elim (x == 32) as (λ b. ((b && true) || has_gap b xs) ≡ list_any is_empty (cond b ([] ∷ words xs) (onto_first x (words xs)))) [
+    | true ↦ refl
+    | false ↦ rest.within ∙ sym (grown x (words xs))
+  ];
 }
 
-pub gap_is : (line : Bytes) → list_any (λ word. length word == 0) (words line) ≡ has_gap 32 line
-gap_is line = let g = gaps line in sym (g.fresh 32 refl)
+pub gap_is : (line : Bytes) → list_any (λ word. length word == 0) (words line) ≡ has_gap true line
+gap_is line = let g = gaps line in sym g.fresh

@@ -80,21 +80,24 @@ fn look_at(line: &[u8]) -> Look
     ensures empty { result ≡ Look.EmptyWord → list_any (λ word. length word == 0) (words line.now) ≡ true }
     ensures full { result ≡ Look.Words → list_any (λ word. length word == 0) (words line.now) ≡ false }
 {
-    let mut last = b' ';
+    let mut begin = 0;
     for i in 0..line.len() {
         let byte = line[i];
-        if byte < b' ' || b'~' < byte {
+        if b'!' <= byte && byte <= b'~' {
+            continue;
+        }
+        if byte != b' ' {
             return Look::NoText;
         }
-        if byte == b' ' && last == b' ' {
+        if begin == i {
             if is_text(&line[i..]) {
                 return Look::EmptyWord;
             }
             return Look::NoText;
         }
-        last = byte;
+        begin = i + 1;
     }
-    if last == b' ' {
+    if begin == line.len() {
         Look::EmptyWord
     } else {
         Look::Words
