@@ -50,7 +50,11 @@ fn load<H: Host>(alloc: Global, host: &mut H) -> Option<(u64, u64)>
     }
 }
 
-fn measure<R: CpuClock + Files + Print + Eprint>(rt: &R, alloc: Global, folder: String) -> io::Result<()> {
+fn measure<R: CpuClock + Files + Print + Eprint>(
+    rt: &R,
+    alloc: Global,
+    folder: String,
+) -> io::Result<()> {
     let Ok(folders) = one(alloc, folder) else {
         return println!(rt; "no memory");
     };
