@@ -85,12 +85,19 @@ impl<R: Files + Print + Eprint + Drop> FileHost<R> {
     {
         match outcome {
             Ok(value) => Ok(value),
-            Err(error) => {
-                doing.refused(&self.place(i), i, &error);
-                raise(&mut self.faults, i.0);
-                Err(Failed)
-            }
+            Err(error) => self.refused(i, doing, &error),
         }
+    }
+
+    // Raises the count of directory `i`, on which a call failed, and tells a person of it.
+    fn refused<T: Drop>(&mut self, i: DirNo, doing: Doing, error: &io::Error) -> Result<T, Failed>
+        requires { i.0 < length self.old.roots.items }
+        ensures err { IsErr result }
+        ensures call { Called ⊥ i.0 Look (untold_state (length self.old.roots.items) self.old.faults self.old.out_faults) (untold_state (length self.new.roots.items) self.new.faults self.new.out_faults) result }
+    {
+        doing.refused(&self.place(i), i, error);
+        raise(&mut self.faults, i.0);
+        Err(Failed)
     }
 }
 
@@ -176,18 +183,20 @@ impl<R: Files + Print + Eprint + Drop> Host for FileHost<R> {
     }
 
     fn append(&mut self, i: DirNo, sub: Sub, name: FileName, bytes: &[u8]) -> Result<(), Failed> {
-        let doing = Doing::file(Verb::WriteTo, sub, &name);
         let at = i.0 as usize;
         let place = Place::new(&self.rt, self.alloc, self.roots[at].as_str());
-        let done = segment::append(&place, &mut self.segments[at], sub, name, bytes);
-        self.counted(i, doing, done)
+        match segment::append(&place, &mut self.segments[at], sub, name, bytes) {
+            Ok(()) => Ok(()),
+            Err(error) => self.refused(i, Doing::file(Verb::WriteTo, sub, &name), &error),
+        }
     }
 
     fn sync(&mut self, i: DirNo, sub: Sub, name: FileName) -> Result<(), Failed> {
-        let doing = Doing::file(Verb::Sync, sub, &name);
         let segment = &self.segments[i.0 as usize];
-        let done = segment::sync(&self.place(i), segment, sub, name);
-        self.counted(i, doing, done)
+        match segment::sync(&self.place(i), segment, sub, name) {
+            Ok(()) => Ok(()),
+            Err(error) => self.refused(i, Doing::file(Verb::Sync, sub, &name), &error),
+        }
     }
 
     fn rename_file(
