@@ -50,9 +50,9 @@ impl Form {
 }
 
 /// Says on the standard error which of the words has no reading, and the forms of the command.
-pub fn explain_usage<R: Print + Eprint>(rt: &R, alloc: Global, words: &[String]) {
+pub fn explain_usage<R: Eprint>(rt: &R, alloc: Global, words: &[String]) {
     let _ = match error_of(alloc, words) {
-        Ok(error) | Err(error) => error.print(rt),
+        Ok(error) | Err(error) => rt.eprint(error),
     };
 }
 
