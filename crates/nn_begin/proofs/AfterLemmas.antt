@@ -1,14 +1,17 @@
 -- Directories behind which a journal was begun: what each holds, and that they stand as between two lines of a run.
-use Rattle.std.proofs.Common.{◌≡◌, ◌≢◌, ◌⊎◌, inl, inr, ⊎_elim, ℕ, ◌+◌, ◌<◌, Bool, true, [], ◌∷◌, Option, Some, None, refl, sym, ◌∙◌, ap, subst, arith, true≢false}
+use Rattle.std.proofs.Common.{◌≡◌, ◌≢◌, ◌⊎◌, inl, inr, ⊎_elim, ℕ, ◌+◌, ◌<◌, Bool, true, List, [], ◌∷◌, ◌++◌, Option, Some, None, refl, sym, ◌∙◌, ap, subst, arith, true≢false}
 use Rattle.std.specs.Prelude.{is_some}
+use Rattle.std.proofs.lemmas.List.{append-nil}
+use Rattle.std.proofs.lemmas.Option.{none-some, same_Some}
 use Rattle.nn_base.specs.DirSets.{Members, has}
 use Rattle.nn_base.specs.declared.sub.Sub.{Sub}
 use Rattle.nn_base.specs.declared.sub.Sub.TheVariants.{Current}
 use Rattle.nn_base.specs.declared.file_name.FileName.{FileName}
 use Rattle.nn_base.specs.declared.file_name.FileName.TheVariants as name
 use Rattle.nn_base.proofs.NamesLemmas.{sub_tells, file_tells}
-use Rattle.nn_host.specs.Disk.{Disk, Reads, Leaves}
+use Rattle.nn_host.specs.Disk.{Disk, File, Reads, Leaves, certain}
 use Rattle.nn_host.specs.Moments.{State, disk_at}
+use Rattle.nn_host.proofs.CleanLemmas.{whole, reading}
 use Rattle.nn_marks.specs.declared.version.Version.{Version}
 use Rattle.nn_state.specs.declared.state.Seven.{Seven}
 use Rattle.nn_state.specs.declared.state.StorageState.TheVariants.{Normal}
@@ -19,6 +22,7 @@ use Rattle.nn_tree.specs.Namespace.{Namespace}
 use Rattle.nn_chain.specs.Folder.{folder_at}
 use Rattle.nn_chain.specs.Images.{IsIntact}
 use Rattle.nn_chain.specs.Records.{first_in}
+use Rattle.nn_remake.specs.Publishing.{IsWhole, digest_of}
 use Rattle.nn_remake.specs.Tidying.{is_unnamed}
 use Rattle.nn_segment_file.specs.Log.{Beside, IsOfLog}
 use Rattle.nn_segment_file.specs.Stages.{IsAlone}
@@ -31,7 +35,9 @@ use Rattle.nn_pick.specs.Refusing.{spent_from}
 use Rattle.nn_kept.specs.Kept.{Shared}
 use Rattle.nn_kept.specs.Laws.{EachLeft}
 use Rattle.nn_kept.specs.Ends.{EndsBetween}
+use Rattle.nn_steps.specs.Steps.{IsSure}
 use Rattle.nn_steps.proofs.BesideLemmas.{LeftBeside, left_beside}
+use Rattle.nn_steps.proofs.SeatLemmas.{reads_whole, reads_fair}
 use Rattle.nn_steps.proofs.LoggedLemmas.{logging_ends}
 use Rattle.nn_run.specs.Steps.{BetweenLines}
 use Rattle.nn_start.specs.Together.{IsAtRest}
@@ -40,6 +46,24 @@ use Rattle.nn_begin.specs.Begun.{AreAtRest, IsStarted, first_stage}
 use Rattle.nn_begin.proofs.MomentLemmas.{steady_from}
 
 -- ---- one directory
+
+-- a file that is certain as it reads
+certain_of : (f : Option File) (w : Option (List ℕ)) (bytes : List ℕ) → f ≡ certain w → whole f ≡ Some bytes → f ≡ certain (Some bytes)
+certain_of f None bytes e is = absurd (none-some bytes (sym (ap whole e) ∙ is))
+certain_of f (Some read) bytes e is = e ∙ ap (λ (l : List ℕ). certain (Some l)) (sym (append-nil read) ∙ same_Some (read ++ []) bytes (sym (ap whole e) ∙ is))
+
+-- an image that each fair stop leaves intact is whole, if its files are certain
+sure_whole : (version : Version) (id i : ℕ) (ns : Namespace) (a : State) → IsSure Current i a → EachLeft (disk_at a i) (λ c. IsIntact (folder_at c Current) version id ns) → IsWhole version id ns (disk_at a i)
+sure_whole version id i ns a sure intact =
+    let it = intact (reading (disk_at a i)) (reads_whole (disk_at a i)) (reads_fair (disk_at a i)) in
+    record {
+      bytes = it.bytes;
+      image = it.image;
+      stands = record {
+        image = certain_of ((disk_at a i).file Current (name.Image id)) ((a.reads i).file Current (name.Image id)) it.bytes (sure (name.Image id)) it.there;
+        digest = certain_of ((disk_at a i).file Current (name.Md5 id)) ((a.reads i).file Current (name.Md5 id)) (digest_of id it.bytes) (sure (name.Md5 id)) it.digest;
+      };
+    }
 
 -- a file that isn't of the log, by its name
 not_unnamed : (n : FileName) → is_unnamed n ≡ true → n ≢ name.SeenTmp → (first_in n ≡ None) × (n ≢ name.Seen)
@@ -99,9 +123,22 @@ module _ (shared : Shared) (version : Version) (id i : ℕ) (a : State) (rest : 
   intact_now : EachLeft d (λ c. IsIntact (folder_at c Current) version id (shared.ns version.ctime id))
   intact_now c leaves fair = image_stays c leaves (shared.ns version.ctime id) (rest.brought.intact (back c leaves).before (back c leaves).left ((back c leaves).fair fair))
 
+  whole_now : IsWhole version id (shared.ns version.ctime id) d
+  whole_now =
+      let it = sure_whole version id i (shared.ns version.ctime id) a rest.brought.sure rest.brought.intact in
+      record {
+        bytes = it.bytes;
+        image = it.image;
+        stands = record {
+          image = beside.other_files (name.Image id) (not_log (name.Image id) refl (λ e. cc) (λ e. cc)) ∙ it.stands.image;
+          digest = beside.other_files (name.Md5 id) (not_log (name.Md5 id) refl (λ e. cc) (λ e. cc)) ∙ it.stands.digest;
+        };
+      }
+
   pub started_now : IsGoing version (shared.ns version.ctime) id (start_record (id + 1) ∷ []) d → IsAlone (first_stage id) d → IsStarted version (shared.ns version.ctime) id d
   started_now going alone = record {
     normal = normal_now;
+    whole = whole_now;
     intact = intact_now;
     later = λ other above. beside.other_files (name.Image other) (not_log (name.Image other) refl (λ e. cc) (λ e. cc)) ∙ rest.clean.images other above;
     named = λ n unnamed. ⊎_elim

@@ -18,6 +18,7 @@ use Rattle.nn_state.specs.Bays.{IsAt}
 use Rattle.nn_tree.specs.Namespace.{Namespace}
 use Rattle.nn_chain.specs.Folder.{folder_at}
 use Rattle.nn_chain.specs.Images.{IsIntact}
+use Rattle.nn_remake.specs.Publishing.{IsWhole}
 use Rattle.nn_remake.specs.Tidying.{is_unnamed}
 use Rattle.nn_segment_file.specs.Log.{Beside, IsOfLog}
 use Rattle.nn_segment_file.specs.Steps.{IsGoing}
@@ -76,9 +77,10 @@ pub record IsNewJournal (count last : ℕ) (journal : JournalSet) : Type 0 where
 abbrev pub HoldsBy : List Settled → (ℕ → Bool) → Type 0
 HoldsBy at holders = (k : ℕ) (it : Settled) → IsAt at k it → (d : Disk) → FitsSettled it d → holders k ≡ d.has Previous
 
--- A directory in which a run begins behind this id: it is NORMAL, with the image of the id intact after each fair stop, no later image, no file that never got its name, and one segment in progress, with its mark alone; seen_txid holds its first id.
+-- A directory in which a run begins behind this id: it is NORMAL, with the image of the id whole and synced, and intact after each fair stop, no later image, no file that never got its name, and one segment in progress, with its mark alone; seen_txid holds its first id.
 pub record IsStarted (version : Version) (list : ℕ → Namespace) (id : ℕ) (d : Disk) : Type 0 where
   pub normal : IsIn Normal d
+  pub whole : IsWhole version id (list id) d
   pub intact : EachLeft d (λ c. IsIntact (folder_at c Current) version id (list id))
   pub later : (other : ℕ) → id < other → d.file Current (Image other) ≡ None
   pub named : (n : FileName) → is_unnamed n ≡ true → d.file Current n ≡ None

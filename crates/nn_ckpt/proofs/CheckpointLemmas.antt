@@ -1,7 +1,9 @@
 -- A checkpoint, phase by phase: the segment is ended, the image is published, the next segment is begun, and all is purged.
-use Rattle.std.proofs.Common.{◌≡◌, ⊎_elim, ℕ, zero, suc, ◌+◌, ◌-◌, ◌<◌, ◌≤◌, true, false, Result, Ok, Err, IsErr, IsErrOf, OnOk, refl, sym, ◌∙◌, ap, subst, arith}
+use Rattle.std.proofs.Common.{◌≡◌, inl, inr, ⊎_elim, ℕ, zero, suc, ◌+◌, ◌-◌, ◌<◌, ◌≤◌, true, false, Result, Ok, Err, IsErr, IsErrOf, OnOk, refl, sym, ◌∙◌, ap, subst, arith}
+use Rattle.std.proofs.lemmas.Bool.{cases_Bool}
 use Rattle.std.specs.Prelude.{IsErrAnd}
 use Rattle.nn_base.specs.DirSets.{Members, has}
+use Rattle.nn_base.proofs.DirSetLemmas.{same_members}
 use Rattle.nn_base.specs.declared.sub.Sub.TheVariants.{Current}
 use Rattle.nn_base.specs.declared.file_name.FileName.TheVariants.{Image}
 use Rattle.nn_host.specs.Moments.{State, disk_at, faults_at}
@@ -48,6 +50,16 @@ same_behind version list stage place is n le = ap list (omega (arith, le)) ∙ s
     steady : (s : Stage) → Matches version list s place → IsSteady list place.last
     steady (Ended end) m = subst (IsSteady list) (sym m.last) m.steady
     steady (Stage.Going base kept) m = m.steady
+
+-- a set between two that are the same
+pub same_between : (a b c : Members) → ((j : ℕ) → has b j ≡ true → has a j ≡ true) → ((j : ℕ) → has c j ≡ true → has b j ≡ true) → c ≡ a → b ≡ a
+same_between a b c below above same = same_members b a (λ j. elim (cases_Bool (has b j)) [
+  | inl there ↦ there ∙ sym (below j there)
+  | inr none ↦ none ∙ sym (elim (cases_Bool (has a j)) [
+    | inl there ↦ absurd (let apart = sym none ∙ above j (ap (λ (s : Members). has s j) same ∙ there) in cc)
+    | inr out ↦ out
+  ])
+])
 
 -- ---- a call of the journal
 

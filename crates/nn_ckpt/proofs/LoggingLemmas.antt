@@ -124,6 +124,7 @@ module _ (base : ℕ) (old d : Disk) (beside : Beside (IsOfLog base) old d) wher
     unfolding it
     pruned_left version list last was low pruned = record {
       images = λ id there. stays_now id (pruned.images id (there_before id there));
+      digests = λ id none. kept (name.Md5 id) (not_log (name.Md5 id) refl (λ e. cc) (λ e. cc)) ∙ pruned.digests id (sym (image_left id) ∙ none);
       named = λ id. kept (name.Ckpt id) (not_log (name.Ckpt id) refl (λ e. cc) (λ e. cc)) ∙ pruned.named id;
       segments = λ older first end is_older order ended.
           let was_older = older_before older is_older in

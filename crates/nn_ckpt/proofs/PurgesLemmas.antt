@@ -1,5 +1,5 @@
 -- All live directories were purged, and those in which a call failed were dropped.
-use Rattle.std.proofs.Common.{◌≡◌, ℕ, true, false, Result, Ok, Err, IsErr}
+use Rattle.std.proofs.Common.{◌≡◌, ⊎_elim, ℕ, sym, subst, arith, true, false, Result, Ok, Err, IsErr}
 use Rattle.nn_base.specs.DirSets.{Members, has}
 use Rattle.nn_host.specs.Moments.{State, IsLawful, disk_at}
 use Rattle.nn_segment_file.specs.Log.{Shared}
@@ -19,6 +19,13 @@ module _ {told : Type 0} {journal after : JournalSet} {failed : Members} {old mi
     purged_on : HasGoneOn version list journal after old new
     purged_on = gone_on tells journal after done drops version list stage is.matches
         (λ j live d p. purging_imaged version list stage (old.reads j) (disk_at old j) d ((lawful tells).reads j) p (imaged_each version list stage journal old is j live))
+
+  -- none was dropped, and each is as it was purged
+  pub purges_exact : after.last ≡ journal.last → (told → (j : ℕ) → has journal.live j ≡ true → has failed j ≡ false → WasPurged j old mid) → told → (j : ℕ) → has after.live j ≡ true → WasPurged j old new
+  purges_exact same each tells = ⊎_elim
+      (λ none j there. subst (λ (s : State). WasPurged j old s) (sym none.2) (each tells j (subst (λ (x : JournalSet). has x.live j ≡ true) none.1 there) (none.0 j)))
+      (λ some. absurd (omega (arith, some.0, same)))
+      drops
 
   -- where there was a fault, only this is said
   pub purges_err : (result : Result (Unit {0}) RunFault) → IsErr result → Purges told journal after old new result

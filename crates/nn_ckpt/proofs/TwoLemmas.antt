@@ -110,12 +110,22 @@ purging_keeps_two version list r old d leaves purging older id two =
 pub purged_is_pruned : PurgedIsPruned
 purged_is_pruned i old new as_read was c leaves = record {
   images = λ id there. record { there = there; last = λ a b above more a_there b_there. not_gone id there (λ stays. stays.last a b above more (was_there a a_there) (was_there b b_there)) };
+  digests = λ id none. gone (name.Md5 id) (was.disk.gone (name.Md5 id) (image_went id none));
   named = λ id. gone (name.Ckpt id) (was.disk.gone (name.Ckpt id) tt);
   segments = λ older first end is_older order ended. gone (name.Edits (first, end)) (was.disk.gone (name.Edits (first, end)) (older, older_read older is_older, ended));
 }
   where
     gone : (n : FileName) → (disk_at new i).file Current n ≡ None → c.file Current n ≡ None
     gone n none = left_none ((disk_at new i).file Current n) (c.file Current n) (leaves.files Current n) none
+
+    -- an image that isn't left is none that stays
+    image_went : (id : ℕ) → c.file Current (name.Image id) ≡ None → ¬ Stays (folder_at (old.reads i) Current) id
+    image_went id none stays =
+        let left : (disk_at new i).file Current (name.Image id) ≡ None = none_before ((disk_at new i).file Current (name.Image id)) (c.file Current (name.Image id)) (leaves.files Current (name.Image id)) none in
+        ⊎_elim
+        (λ same. stays.there (left_none ((disk_at old i).file Current (name.Image id)) ((old.reads i).file Current (name.Image id)) (as_read.files Current (name.Image id)) (sym same ∙ left)))
+        (λ went. went.0 stays)
+        (was.disk.purging.files (name.Image id))
 
     -- what is left was there as it read
     was_there : (id : ℕ) → IsThere (folder_at c Current) id → IsThere (folder_at (old.reads i) Current) id
@@ -176,6 +186,7 @@ module _ (version : Version) (list : Shared) (stage : Stage) (older id : ℕ) (n
   checkpointed pruned = record {
     intact = subst (λ (n : Namespace). IsIntact (folder_at c Current) version id n) same_id (last_intact version id (list id) d last c leaves);
     newest = none_later version id (list id) d last c leaves;
+    two = (older, record { stays = older_stays version list older id d two c leaves; later = (id, two.less, last_there version id (list id) d last c leaves) });
     pruned = pruned;
     chain = chain;
     older = λ other is_older. subst (λ (n : ℕ). IsChainFrom (folder_at c Current) version n (record { last = last_of stage; ns = ns })) (sym (older_is version list older id d two c leaves other is_older)) older_chain;

@@ -46,10 +46,11 @@ pub record HasTwoImages (version : Version) (list : Shared) (older id : ℕ) (d 
   pub later : (other : ℕ) → older < other → other ≢ id → d.file Current (Image other) ≡ None
   pub leads : EachLeft d (λ c. IsLedTo (folder_at c Current) version older (record { last = id; ns = list id }))
 
--- It has an intact image of this namespace at this id and none of a later one, at most one older image and no more than that needs; and begun at either its chain ends at the same id, with this namespace.
+-- It has an intact image of this namespace at this id and none of a later one, one older image and no more than that needs; and begun at either its chain ends at the same id, with this namespace.
 pub record IsCheckpointed (version : Version) (id last : ℕ) (ns : Namespace) (folder : Folder) : Type 0 where
   pub intact : IsIntact folder version id ns
   pub newest : (later : ℕ) → id < later → folder (Image later) ≡ None
+  pub two : (older : ℕ) × IsOlder folder older
   pub pruned : IsPruned folder
   pub chain : IsChain folder version (record { last = last; ns = ns })
   pub older : (older : ℕ) → IsOlder folder older → IsChainFrom folder version older (record { last = last; ns = ns })

@@ -59,9 +59,10 @@ pub record WasPurged (i : ℕ) (old new : State) : Type 0 where
   pub disk : IsPurged (folder_at (old.reads i) Current) (disk_at old i) (disk_at new i)
   pub reads : IsPurged (folder_at (old.reads i) Current) (old.reads i) (new.reads i)
 
--- At most two images are left, no image on the way, and no finalized segment that ends at or before the older image.
+-- At most two images are left, no MD5 file without its image, no image on the way, and no finalized segment, of those that a span names, that ends at or before the older image.
 pub record IsPruned (folder : Folder) : Type 0 where
   pub images : (id : ℕ) → IsThere folder id → Stays folder id
+  pub digests : (id : ℕ) → folder (name.Image id) ≡ None → folder (name.Md5 id) ≡ None
   pub named : (id : ℕ) → folder (name.Ckpt id) ≡ None
   pub segments : (older first last : ℕ) → IsOlder folder older → first ≤ last → last ≤ older → folder (name.Edits (first, last)) ≡ None
 

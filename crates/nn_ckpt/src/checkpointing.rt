@@ -19,7 +19,7 @@ use std::alloc::Global;
 /// id in each live directory, begins the next segment, and purges. Answers that id.
 ///
 /// The version is what VERSION of each live directory says. Each piece of the image goes out as it is made: beside the tree it
-/// takes the memory of one message and of 65,536 bytes. A directory in which a call fails is dropped, and the rest goes on ahead
+/// takes the memory of one message and of 65,536 bytes, and then that of the names of one directory. A directory in which a call fails is dropped, and the rest goes on ahead
 /// of it. After `Memory` the directories are as after a stop, and a segment may be in progress or not.
 pub fn checkpoint<H: Host, T: Tree>(
     alloc: Global,
@@ -36,6 +36,8 @@ pub fn checkpoint<H: Host, T: Tree>(
     requires imaged { IsImaged (T.meaning tree.now) }
     ensures checkpoints { Checkpoints H.told version.now (T.meaning tree.now) journal.old journal.new (H.state host.old) (H.state host.new) result }
     ensures above { IfOk result (λ id. (journal.old.last < id) × (id < journal.new.last)) }
+    ensures next { journal.new.live ≡ journal.old.live → IfOk result (λ id. (id ≡ journal.old.last + 1) × (journal.new.last ≡ id + 1)) }
+    ensures onward { journal.old.last ≤ journal.new.last }
     ensures went { Went H.told journal.old.live journal.new.live (H.state host.old) (H.state host.new) }
     ensures last { journal.new.last + 2 * count_of journal.new.live ≤ journal.old.last + 4 + 2 * count_of journal.old.live }
     ensures left { IsErrOf result RunFault.NoneLeft → (j : ℕ) → has journal.new.live j ≡ false }

@@ -22,17 +22,18 @@ use nn_remake::{MakeFault, names_of, remove_from_end};
 use std::alloc::Global;
 
 /// Purges each live directory (HDFS's `NNStorageRetentionManager` that retains two images): the two images of greatest id stay, and
-/// all other images go, with their MD5 files, each image on the way, and where two images are left each finalized segment
-/// that ends at or before the older one's id.
+/// all other images go, with their MD5 files, each MD5 file without an image, each image on the way, and where two images are
+/// left each finalized segment that ends at or before the older one's id. No other file is touched but the log's.
 ///
-/// An image goes before the segments that it alone needs. A directory in which a call fails is dropped, and the journal rolls in
-/// the others. After `Memory` some of the directories are purged.
+/// A directory in which a call fails is dropped, and the journal rolls in the others; where none is, no id is given. After `Memory`
+/// some of the directories are purged. What is said of each moment asks for an id that was given, as it is in any run.
 pub fn purge<H: Host>(alloc: Global, host: &mut H, journal: &mut JournalSet) -> Result<(), RunFault>
     requires below { (j : ℕ) → has journal.old.live j ≡ true → j < (H.state host.old).count }
     requires empty { journal.old.buffer.items ≡ [] }
     requires fit { IsFit journal.old }
     requires ids { journal.old.last + 64 < 2 ^ 63 }
     ensures purges { Purges H.told journal.old journal.new (H.state host.old) (H.state host.new) result }
+    ensures exact { H.told → journal.new.last ≡ journal.old.last → OnOk result ((j : ℕ) → has journal.new.live j ≡ true → WasPurged j (H.state host.old) (H.state host.new)) }
     ensures went { Went H.told journal.old.live journal.new.live (H.state host.old) (H.state host.new) }
     ensures onward { journal.old.last ≤ journal.new.last }
     ensures last { journal.new.last + 2 * count_of journal.new.live ≤ journal.old.last + 2 * count_of journal.old.live }

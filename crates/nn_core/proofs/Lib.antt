@@ -1,4 +1,3 @@
-pub mod FlownLemmas
 pub mod StandLemmas
 pub mod CallsLemmas
 pub mod SpokenLemmas
@@ -7,3 +6,4 @@ pub mod PlainLemmas
 pub mod StepLemmas
 pub mod EndLemmas
 pub mod LiveLemmas
+pub mod CheckpointLemmas

@@ -3,6 +3,7 @@ use Rattle.std.proofs.Common.{◌≡◌, ◌≢◌, inl, inr, ⊎_elim, ℕ, fal
 use Rattle.std.proofs.lemmas.Bool.{cases_Bool}
 use Rattle.nn_base.specs.Paths.{Bytes}
 use Rattle.nn_host.specs.Moments.{State}
+use Rattle.nn_marks.specs.declared.version.Version.{Version}
 use Rattle.nn_tree.specs.Namespace.{Namespace}
 use Rattle.nn_journal.specs.declared.journal.JournalSet.{JournalSet}
 use Rattle.nn_ops.specs.declared.command.Command.{Command}
@@ -59,23 +60,23 @@ module _ (ns : Namespace) (command : Command) (time : ℕ) where
 -- a refused command is none that writes
 pub refused_idle : (ns : Namespace) (command : Command) (refusal : OpRefusal) → refusal_of ns command ≡ Some refusal → ¬ Writes (Ok (Some (Change command))) ns
 refused_idle ns command refusal some writes = ⊎_elim
-    (λ roll. absurd (cc roll))
+    (λ begins. ⊎_elim (λ roll. absurd (cc roll)) (λ saves. absurd (cc saves)) begins)
     (λ takes. absurd (let apart = sym some in let none = takes.2 in let same = takes.1 in cc))
     writes
 
 -- ---- the same, under other names
 
-pub stepped_as : {told : Type 0} {reading : Result (Option ScriptCommand) Syntax} {count : ℕ} {ns ns_after : Namespace} {time time_after : ℕ} {journal after : JournalSet} {old new : State} {r s : Result (Unit {0}) End} → r ≡ s
-    → HasStepped told reading count ns ns_after time time_after journal after old new s → HasStepped told reading count ns ns_after time time_after journal after old new r
-stepped_as {told} {reading} {count} {ns} {ns_after} {time} {time_after} {journal} {after} {old} {new} same is = subst (λ r. HasStepped told reading count ns ns_after time time_after journal after old new r) (sym same) is
+pub stepped_as : {told : Type 0} {reading : Result (Option ScriptCommand) Syntax} {count : ℕ} {version : Version} {ns ns_after : Namespace} {time time_after : ℕ} {journal after : JournalSet} {old new : State} {r s : Result (Unit {0}) End} → r ≡ s
+    → HasStepped told reading count version ns ns_after time time_after journal after old new s → HasStepped told reading count version ns ns_after time time_after journal after old new r
+stepped_as {told} {reading} {count} {version} {ns} {ns_after} {time} {time_after} {journal} {after} {old} {new} same is = subst (λ r. HasStepped told reading count version ns ns_after time time_after journal after old new r) (sym same) is
 
-pub stepped_reading : {told : Type 0} {reading other : Result (Option ScriptCommand) Syntax} {count : ℕ} {ns ns_after : Namespace} {time time_after : ℕ} {journal after : JournalSet} {old new : State} {r : Result (Unit {0}) End} → reading ≡ other
-    → HasStepped told other count ns ns_after time time_after journal after old new r → HasStepped told reading count ns ns_after time time_after journal after old new r
-stepped_reading {told} {count = count} {ns} {ns_after} {time} {time_after} {journal} {after} {old} {new} {r} same is = subst (λ x. HasStepped told x count ns ns_after time time_after journal after old new r) (sym same) is
+pub stepped_reading : {told : Type 0} {reading other : Result (Option ScriptCommand) Syntax} {count : ℕ} {version : Version} {ns ns_after : Namespace} {time time_after : ℕ} {journal after : JournalSet} {old new : State} {r : Result (Unit {0}) End} → reading ≡ other
+    → HasStepped told other count version ns ns_after time time_after journal after old new r → HasStepped told reading count version ns ns_after time time_after journal after old new r
+stepped_reading {told} {count = count} {version} {ns} {ns_after} {time} {time_after} {journal} {after} {old} {new} {r} same is = subst (λ x. HasStepped told x count version ns ns_after time time_after journal after old new r) (sym same) is
 
-pub stepped_to : {told : Type 0} {reading : Result (Option ScriptCommand) Syntax} {count : ℕ} {ns ns_after other : Namespace} {time time_after : ℕ} {journal after : JournalSet} {old new : State} {r : Result (Unit {0}) End} → ns_after ≡ other
-    → HasStepped told reading count ns other time time_after journal after old new r → HasStepped told reading count ns ns_after time time_after journal after old new r
-stepped_to {told} {reading} {count} {ns} {time = time} {time_after} {journal} {after} {old} {new} {r} same is = subst (λ x. HasStepped told reading count ns x time time_after journal after old new r) (sym same) is
+pub stepped_to : {told : Type 0} {reading : Result (Option ScriptCommand) Syntax} {count : ℕ} {version : Version} {ns ns_after other : Namespace} {time time_after : ℕ} {journal after : JournalSet} {old new : State} {r : Result (Unit {0}) End} → ns_after ≡ other
+    → HasStepped told reading count version ns other time time_after journal after old new r → HasStepped told reading count version ns ns_after time time_after journal after old new r
+stepped_to {told} {reading} {count} {version} {ns} {time = time} {time_after} {journal} {after} {old} {new} {r} same is = subst (λ x. HasStepped told reading count version ns x time time_after journal after old new r) (sym same) is
 
 -- over as many directories
 pub ready_as : {journal : JournalSet} {n m : ℕ} {s : State} → n ≡ m → IsReady journal n s → IsReady journal m s

@@ -9,10 +9,12 @@ use Rattle.nn_host.specs.Moments.{Dir, State, faults_at}
 use Rattle.nn_host.specs.Calls.{most_said}
 use Rattle.nn_host.specs.declared.host.Failed.{Failed}
 use Rattle.nn_host.proofs.RunsLemmas.{throughout_refl, throughout_told, throughout_weaker, unspoken_refl}
+use Rattle.nn_marks.specs.declared.version.Version.{Version}
 use Rattle.nn_tree.specs.Namespace.{Namespace}
 use Rattle.nn_segment_file.specs.Stages.{StandsAt, IsAlone}
 use Rattle.nn_journal.specs.declared.journal.JournalSet.{JournalSet}
 use Rattle.nn_pick.specs.Opening.{Book}
+use Rattle.nn_ckpt.specs.Checkpointed.{HasLastImage}
 use Rattle.nn_script.specs.declared.command.ScriptCommand.{ScriptCommand}
 use Rattle.nn_script.specs.declared.syntax.Syntax.{Syntax}
 use Rattle.nn_script.specs.Reading.{reading_of}
@@ -34,27 +36,27 @@ use Rattle.nn_core.proofs.CallsLemmas.{one_call}
 use Rattle.nn_core.proofs.LineLemmas.{has_answer, reply_is}
 
 -- what stood still stands
-pub stands_same : {told : Type 0} {a c : State} (text : Bytes) (journal : JournalSet) (ns : Namespace) → told → SaysFronts told a c text → Stands journal ns a → Stands journal ns c
-stands_same {told} {a} {c} text journal ns tells fronts stands = record {
-  version = stands.version;
+pub stands_same : {told : Type 0} {a c : State} (text : Bytes) (version : Version) (journal : JournalSet) (ns : Namespace) → told → SaysFronts told a c text → Stands version journal ns a → Stands version journal ns c
+stands_same {told} {a} {c} text version journal ns tells fronts stands = record {
   list = stands.list;
   stage = stands.stage;
   matches = stands.matches;
-  disks = λ j e. subst (λ (dirs : ℕ → Dir). StandsAt stands.version stands.list stands.stage (dirs j).disk) (sym (fronts.ends tells).0) (stands.disks j e);
+  disks = λ j e. subst (λ (dirs : ℕ → Dir). StandsAt version stands.list stands.stage (dirs j).disk) (sym (fronts.ends tells).0) (stands.disks j e);
   alone = λ j e. subst (λ (dirs : ℕ → Dir). IsAlone stands.stage (dirs j).disk) (sym (fronts.ends tells).0) (stands.alone j e);
-  between = subst (λ k. BetweenLines stands.version stands.list k (has journal.live) (λ i. false) (unsaved ns) journal.last c.now) (sym fronts.count) (between_same a.now c.now (fronts.ends tells).0 stands.between);
+  images = λ j e. subst (λ (dirs : ℕ → Dir). HasLastImage version stands.list journal.last (dirs j).disk) (sym (fronts.ends tells).0) (stands.images j e);
+  between = subst (λ k. BetweenLines version stands.list k (has journal.live) (λ i. false) (unsaved ns) journal.last c.now) (sym fronts.count) (between_same a.now c.now (fronts.ends tells).0 stands.between);
 }
 
-module _ {told : Type 0} (reading : Result (Option ScriptCommand) Syntax) (journal : JournalSet) (count : ℕ) (ns : Namespace) (time time_after : ℕ) (a c : State) (text : Bytes) (some : reading ≢ Ok None)
+module _ {told : Type 0} (reading : Result (Option ScriptCommand) Syntax) (version : Version) (journal : JournalSet) (count : ℕ) (ns : Namespace) (time time_after : ℕ) (a c : State) (text : Bytes) (some : reading ≢ Ok None)
     (reply : (sight : Sight) → ((i : ℕ) → sight.live i ≡ has journal.live i) → reply_read count (running ns time) sight reading ≡ record { text = text; after = running ns time_after }) (listed : a.count ≡ count) (fronts : SaysFronts told a c text) where
   plain_reply : (line : Bytes) → reading_of line ≡ reading → reply_at count (running ns time) (asked_at line journal.live c) ≡ record { text = text; after = running ns time_after }
   plain_reply line reads = reply_is reading some line reads count (running ns time) (asked_at line journal.live c).sight _ (reply (asked_at line journal.live c).sight (λ i. refl))
 
-  plain_kept : Keeps told reading journal count ns time journal.live a c
+  plain_kept : Keeps told reading version journal count ns time journal.live a c
   plain_kept tells ids stands line reads =
       let is = plain_reply line reads in
-      (saying_is_kept stands.version stands.list count (has journal.live) (running ns time) (asked_at line journal.live c) journal.last a c
-      (subst (λ k. BetweenLines stands.version stands.list k (has journal.live) (λ i. false) (unsaved ns) journal.last a.now) listed stands.between) refl (has_answer reading some line reads)
+      (saying_is_kept version stands.list count (has journal.live) (running ns time) (asked_at line journal.live c) journal.last a c
+      (subst (λ k. BetweenLines version stands.list k (has journal.live) (λ i. false) (unsaved ns) journal.last a.now) listed stands.between) refl (has_answer reading some line reads)
       (ap (λ (r : RunReply). r.after.book) is) (subst (λ x. OnlySays (Unit {0}) x a c) (sym (ap (λ (r : RunReply). r.text) is)) (throughout_told (λ u. tells) fronts))).0
 
   plain_ready : IsReady journal count a → IsReady journal count c
@@ -70,17 +72,18 @@ module _ {told : Type 0} (reading : Result (Option ScriptCommand) Syntax) (journ
         sees_faults = λ i. refl;
       }
 
-module _ {told : Type 0} (reading : Result (Option ScriptCommand) Syntax) (journal : JournalSet) (count : ℕ) (ns : Namespace) (time time_after : ℕ) (a c : State) (text : Bytes) (said : Result (Unit {0}) Failed) (some : reading ≢ Ok None)
+module _ {told : Type 0} (reading : Result (Option ScriptCommand) Syntax) (version : Version) (journal : JournalSet) (count : ℕ) (ns : Namespace) (time time_after : ℕ) (a c : State) (text : Bytes) (said : Result (Unit {0}) Failed) (some : reading ≢ Ok None)
     (reply : (sight : Sight) → ((i : ℕ) → sight.live i ≡ has journal.live i) → reply_read count (running ns time) sight reading ≡ record { text = text; after = running ns time_after }) (listed : a.count ≡ count) (says : Says told a c text said)
     (short : IsChange reading → (0 < length text) × (length text ≤ most_said)) (idle : ¬ Writes reading ns) where
-  plain_wrote : HasWritten told reading ns journal journal a c (unless_failed said)
+  plain_wrote : HasWritten told reading version ns journal journal a c (unless_failed said)
   plain_wrote = record {
     idle = λ none. (refl, throughout_weaker (fronts_of text said says) (λ tells m is. is.0));
     adds = λ takes. absurd (idle (inr takes));
     last = omega arith;
     calls = λ tells change same small. let is = short change in omega (arith, one_call a c text said is.0 is.1 says tells);
-    begins = λ roll. absurd (idle (inl roll));
-    rolled = λ tells ids stands roll. absurd (idle (inl roll));
+    begins = λ roll. absurd (idle (inl (inl roll)));
+    rolled = λ tells ids stands roll. absurd (idle (inl (inl roll)));
+    checkpointed = λ tells ids stands saves. absurd (idle (inl (inr saves)));
   }
 
   plain_live : HasDropped told reading ns journal journal a c (unless_failed said)
@@ -96,33 +99,33 @@ module _ {told : Type 0} (reading : Result (Option ScriptCommand) Syntax) (journ
 
   plain_spoken : Speaks told reading count (running ns time) journal.live a c
   plain_spoken line reads =
-      let is = plain_reply reading journal count ns time time_after a c text some reply listed (fronts_of text said says) line reads in
+      let is = plain_reply reading version journal count ns time time_after a c text some reply listed (fronts_of text said says) line reads in
       spoken_as (sym (ap (λ (r : RunReply). r.text) is)) (speaks_by a a c text unspoken_refl (fronts_of text said says))
 
-pub plain_step : {told : Type 0} (reading : Result (Option ScriptCommand) Syntax) (journal : JournalSet) (count : ℕ) (ns : Namespace) (time time_after : ℕ) (a c : State) (text : Bytes) (said : Result (Unit {0}) Failed) → reading ≢ Ok None
+pub plain_step : {told : Type 0} (reading : Result (Option ScriptCommand) Syntax) (version : Version) (journal : JournalSet) (count : ℕ) (ns : Namespace) (time time_after : ℕ) (a c : State) (text : Bytes) (said : Result (Unit {0}) Failed) → reading ≢ Ok None
     → ((sight : Sight) → ((i : ℕ) → sight.live i ≡ has journal.live i) → reply_read count (running ns time) sight reading ≡ record { text = text; after = running ns time_after }) → IsReady journal count a → Says told a c text said
-    → (IsChange reading → (0 < length text) × (length text ≤ most_said)) → ¬ Writes reading ns → HasStepped told reading count ns ns time time_after journal journal a c (unless_failed said)
-plain_step {told} reading journal count ns time time_after a c text (Ok v) some reply ready says short idle =
+    → (IsChange reading → (0 < length text) × (length text ≤ most_said)) → ¬ Writes reading ns → HasStepped told reading count version ns ns time time_after journal journal a c (unless_failed said)
+plain_step {told} reading version journal count ns time time_after a c text (Ok v) some reply ready says short idle =
     let fronts = fronts_of text (Ok v) says in record {
-      answered = plain_answered reading journal count ns time time_after a c text some reply ready.listed fronts (λ tells. says.said tells ∙ ap (λ x. a.now.said ++ x) (concat_pieces text)) says.answered.faults;
-      kept = plain_kept reading journal count ns time time_after a c text some reply ready.listed fronts;
-      stands = λ tells ids stands. stands_same text journal ns tells fronts stands;
-      ready = plain_ready reading journal count ns time time_after a c text some reply ready.listed fronts ready;
-      wrote = plain_wrote reading journal count ns time time_after a c text (Ok v) some reply ready.listed says short idle;
-      live = plain_live reading journal count ns time time_after a c text (Ok v) some reply ready.listed says short idle;
-      spoken = plain_spoken reading journal count ns time time_after a c text (Ok v) some reply ready.listed says short idle;
+      answered = plain_answered reading version journal count ns time time_after a c text some reply ready.listed fronts (λ tells. says.said tells ∙ ap (λ x. a.now.said ++ x) (concat_pieces text)) says.answered.faults;
+      kept = plain_kept reading version journal count ns time time_after a c text some reply ready.listed fronts;
+      stands = λ tells ids stands. stands_same text version journal ns tells fronts stands;
+      ready = plain_ready reading version journal count ns time time_after a c text some reply ready.listed fronts ready;
+      wrote = plain_wrote reading version journal count ns time time_after a c text (Ok v) some reply ready.listed says short idle;
+      live = plain_live reading version journal count ns time time_after a c text (Ok v) some reply ready.listed says short idle;
+      spoken = plain_spoken reading version journal count ns time time_after a c text (Ok v) some reply ready.listed says short idle;
       out = out_by a a c text (Ok v) unspoken_refl says;
       ended = tt;
     }
-plain_step {told} reading journal count ns time time_after a c text (Err e) some reply ready says short idle =
+plain_step {told} reading version journal count ns time time_after a c text (Err e) some reply ready says short idle =
     let fronts = fronts_of text (Err e) says in record {
       answered = tt;
-      kept = plain_kept reading journal count ns time time_after a c text some reply ready.listed fronts;
+      kept = plain_kept reading version journal count ns time time_after a c text some reply ready.listed fronts;
       stands = tt;
-      ready = plain_ready reading journal count ns time time_after a c text some reply ready.listed fronts ready;
-      wrote = plain_wrote reading journal count ns time time_after a c text (Err e) some reply ready.listed says short idle;
-      live = plain_live reading journal count ns time time_after a c text (Err e) some reply ready.listed says short idle;
-      spoken = plain_spoken reading journal count ns time time_after a c text (Err e) some reply ready.listed says short idle;
+      ready = tt;
+      wrote = plain_wrote reading version journal count ns time time_after a c text (Err e) some reply ready.listed says short idle;
+      live = plain_live reading version journal count ns time time_after a c text (Err e) some reply ready.listed says short idle;
+      spoken = plain_spoken reading version journal count ns time time_after a c text (Err e) some reply ready.listed says short idle;
       out = out_by a a c text (Err e) unspoken_refl says;
       ended = tt;
     }
@@ -130,19 +133,19 @@ plain_step {told} reading journal count ns time time_after a c text (Err e) some
 -- ---- want of memory
 
 -- want of memory, before anything was written: this moment is one of the step
-memory_kept : {told : Type 0} (reading : Result (Option ScriptCommand) Syntax) (journal : JournalSet) (count : ℕ) (ns : Namespace) (time : ℕ) (a : State) → reading ≢ Ok None → a.count ≡ count → Keeps told reading journal count ns time journal.live a a
-memory_kept reading journal count ns time a some listed tells ids stands line reads =
+memory_kept : {told : Type 0} (reading : Result (Option ScriptCommand) Syntax) (version : Version) (journal : JournalSet) (count : ℕ) (ns : Namespace) (time : ℕ) (a : State) → reading ≢ Ok None → a.count ≡ count → Keeps told reading version journal count ns time journal.live a a
+memory_kept reading version journal count ns time a some listed tells ids stands line reads =
     let asked = asked_at line journal.live a in
     let run = running ns time in
     let answers = has_answer reading some line reads in
-    let between = subst (λ k. BetweenLines stands.version stands.list k (has journal.live) (λ i. false) (unsaved ns) journal.last a.now) listed stands.between in
+    let between = subst (λ k. BetweenLines version stands.list k (has journal.live) (λ i. false) (unsaved ns) journal.last a.now) listed stands.between in
     throughout_refl (λ t. record {
       front = (0, sym (append-nil a.now.said));
       counted = λ i. omega arith;
       kept = (
         between.shared,
         (λ book there. both_part count run asked answers a a.now refl (has_text count run asked answers) book (first_of_two between.shared.window (unsaved ns) (reply_at count run asked).after.book between.window book there)),
-        kept_whichever stands.version stands.list count (has journal.live) (λ i. false) (unsaved ns) journal.last a.now between (is_of_step (has journal.live) a) (λ i d. true && is_of_step (has journal.live) a i d) refl
+        kept_whichever version stands.list count (has journal.live) (λ i. false) (unsaved ns) journal.last a.now between (is_of_step (has journal.live) a) (λ i d. true && is_of_step (has journal.live) a i d) refl
             (not_live (has journal.live) a) (not_held (has journal.live) a),
       );
     })
@@ -150,13 +153,13 @@ memory_kept reading journal count ns time a some listed tells ids stands line re
     first_of_two : (books : List Book) (one two : Book) → books ≡ one ∷ [] → (book : Book) → Contains books book → Contains (one ∷ two ∷ []) book
     first_of_two books one two is book there = Contains-append_left (one ∷ []) (two ∷ []) book (subst (λ bs. Contains bs book) is there)
 
-pub memory_step : {told : Type 0} (reading : Result (Option ScriptCommand) Syntax) (journal : JournalSet) (count : ℕ) (ns : Namespace) (time : ℕ) (a : State) → reading ≢ Ok None → IsChange reading → IsReady journal count a
-    → HasStepped told reading count ns ns time time journal journal a a (Err Memory)
-memory_step {told} reading journal count ns time a some change ready = record {
+pub memory_step : {told : Type 0} (reading : Result (Option ScriptCommand) Syntax) (version : Version) (journal : JournalSet) (count : ℕ) (ns : Namespace) (time : ℕ) (a : State) → reading ≢ Ok None → IsChange reading → IsReady journal count a
+    → HasStepped told reading count version ns ns time time journal journal a a (Err Memory)
+memory_step {told} reading version journal count ns time a some change ready = record {
   answered = tt;
-  kept = memory_kept reading journal count ns time a some ready.listed;
+  kept = memory_kept reading version journal count ns time a some ready.listed;
   stands = tt;
-  ready = ready;
+  ready = tt;
   wrote = record {
     idle = λ none. (refl, throughout_refl (λ tells. refl));
     adds = λ takes same small. tt;
@@ -164,9 +167,10 @@ memory_step {told} reading journal count ns time a some change ready = record {
     calls = λ tells change same small. omega arith;
     begins = λ roll. tt;
     rolled = λ tells ids stands roll. tt;
+    checkpointed = λ tells ids stands saves. tt;
   };
   live = record { counted = counted_none journal.live a; left = left_none journal.live a; some = tt };
   spoken = λ line reads. throughout_refl (λ tells. ((0, sym (append-nil a.now.said)), inl refl));
   out = quiet_out unspoken_refl;
-  ended = (change, refl, refl, refl);
+  ended = (inl (change, refl, refl), unspoken_refl, refl);
 }

@@ -1,5 +1,5 @@
 -- How a record that is logged, or a roll, brings the live directories on.
-use Rattle.std.proofs.Common.{◌≡◌, inl, inr, ℕ, zero, suc, ◌+◌, ◌-◌, ◌<◌, ◌≤◌, nat_le, if◌then◌else◌, Bool, true, false, None, List, [], ◌∷◌, ◌++◌, length, refl, sym, ◌∙◌, ap, subst, arith}
+use Rattle.std.proofs.Common.{◌≡◌, inl, inr, ⊎_elim, ℕ, zero, suc, ◌+◌, ◌-◌, ◌<◌, ◌≤◌, nat_le, if◌then◌else◌, Bool, true, false, None, List, [], ◌∷◌, ◌++◌, length, refl, sym, ◌∙◌, ap, subst, arith}
 use Rattle.std.proofs.lemmas.Bool.{cases_lt}
 use Rattle.std.proofs.lemmas.Bool.Decides.{nat_tests}
 use Rattle.nn_base.specs.DirSets.{Members, has}
@@ -12,8 +12,9 @@ use Rattle.nn_record.specs.Spelling.{spelling, IsRecord}
 use Rattle.nn_ops.specs.Step.{Fits}
 use Rattle.nn_ops.specs.Effects.{effect}
 use Rattle.nn_segment_file.specs.Log.{Shared, AgreeTo}
-use Rattle.nn_segment_file.specs.Stages.{Stage, Ended, Going, last_of}
-use Rattle.nn_journal.specs.Among.{AllAt, AllAlone}
+use Rattle.nn_segment_file.specs.Stages.{Stage, Ended, Going, base_of, last_of}
+use Rattle.nn_journal.specs.Among.{AllAt, AllAlone, StaysLive, IsDropped}
+use Rattle.nn_journal.specs.Carried.{Carried}
 use Rattle.nn_journal.specs.declared.journal.JournalSet.{JournalSet}
 use Rattle.nn_journal.specs.Places.{Place, place_of, Matches, IsInProgress, IsSteady, HasCome, BringsAhead, BringsLoggedAhead}
 use Rattle.nn_journal.specs.Logging.{one_more, next_record}
@@ -24,10 +25,13 @@ use Rattle.nn_pick.specs.Opening.{Book}
 use Rattle.nn_kept.specs.Kept.{Shared as Kept}
 use Rattle.nn_kept.specs.Ends.{EndsAt, EndsBetween}
 use Rattle.nn_kept.proofs.KeptEndsLemmas.{left_behind_is_kept}
+use Rattle.nn_remake.specs.Publishing.{IsWhole}
+use Rattle.nn_ckpt.specs.Checkpointed.{HasLastImage}
+use Rattle.nn_ckpt.proofs.LoggingLemmas.{logging_keeps_image}
 use Rattle.nn_run.specs.Steps.{BetweenLines}
 use Rattle.nn_run.specs.Flights.{Flies, Flown, LeadsTo}
-use Rattle.nn_core.specs.Standing.{unsaved, GoesFrom, NoneGoes, Stands, Comes}
-use Rattle.nn_core.proofs.FlownLemmas.{flown_of}
+use Rattle.nn_core.specs.Standing.{unsaved, AllImaged, GoesFrom, NoneGoes, Stands, Comes}
+use Rattle.nn_ckpt.proofs.FlownLemmas.{flown_of}
 
 -- ---- lists
 
@@ -88,7 +92,7 @@ stage_last version list (Ended end) place is = is.last
 stage_last version list (Going base kept) place is = omega (arith, is.last)
 
 -- a live directory ends where its segment does
-starts_at : (version : Version) (list : Shared) (count : ℕ) (live : ℕ → Bool) (ns : Namespace) (last from : ℕ) (s : State) → last ≡ from → BetweenLines version list count live (λ i. false) (unsaved ns) last s.now → (j : ℕ) → j < count → live j ≡ true → Flies version list from from (disk_at s j)
+pub starts_at : (version : Version) (list : Shared) (count : ℕ) (live : ℕ → Bool) (ns : Namespace) (last from : ℕ) (s : State) → last ≡ from → BetweenLines version list count live (λ i. false) (unsaved ns) last s.now → (j : ℕ) → j < count → live j ≡ true → Flies version list from from (disk_at s j)
 starts_at version list count live ns last from s same between j below e =
     let it = between.lives j below e in record {
       normal = it.normal;
@@ -97,10 +101,17 @@ starts_at version list count live ns last from s same between j below e =
 
 -- ---- a journal's call
 
+-- who is live behind it was live
+carried_live : {told : Type 0} (version : Version) (list : Shared) (from to : Stage) (below : ℕ) (holders live after : Members) (a b : State) → Carried told version list from to below holders live after a b → (j : ℕ) → has after j ≡ true → has live j ≡ true
+carried_live version list from to below holders live after a b carried j e = ⊎_elim
+    (λ (stays : StaysLive live after a b j). sym stays.same_live ∙ e)
+    (λ (dropped : IsDropped live after a b j). dropped.was_among)
+    (carried.counted j)
+
 module _ {told : Type 0} (tells : told) (version : Version) (list : Shared) (from : Stage) (journal after : JournalSet) (holders live : Members) (ns ns_after : Namespace) (below : ℕ) (a b : State)
     (come : HasCome told version list from (place_of after) below holders live after.live a b) (low : below < after.last) (same_live : live ≡ journal.live) (last : journal.last ≡ last_of from)
     (among : (j : ℕ) → has journal.live j ≡ true → j < a.count) (before : BetweenLines version list a.count (has journal.live) (λ i. false) (unsaved ns) journal.last a.now)
-    (leads : LeadsTo list (unsaved ns) (unsaved ns_after) journal.last after.last) (alone : AllAlone from live a) where
+    (leads : LeadsTo list (unsaved ns) (unsaved ns_after) journal.last after.last) (alone : AllAlone from live a) (imaged : AllImaged version list journal.last journal a) where
   after_last : after.last ≡ last_of come.to
   after_last = stage_last version list come.to (place_of after) come.matches
 
@@ -108,30 +119,40 @@ module _ {told : Type 0} (tells : told) (version : Version) (list : Shared) (fro
   flight = flown_of tells version list from come.to below holders live after.live a b come.carried (omega (arith, low, after_last))
       (λ j e. let there : has journal.live j ≡ true = ap (λ (set : Members). has set j) (sym same_live) ∙ e in starts_at version list a.count (has journal.live) ns journal.last (last_of from) a last before j (among j there) there)
 
-  pub comes_by : Comes journal after ns ns_after a b
+  -- the journal touches no image
+  still_imaged : (j : ℕ) → has after.live j ≡ true → HasLastImage version list after.last (disk_at b j)
+  still_imaged j e =
+      let there = come_live j e in
+      logging_keeps_image version list (base_of from) journal.last after.last (disk_at a j) (disk_at b j) (imaged j (ap (λ (set : Members). has set j) (sym same_live) ∙ there)) onward (((come.carried.any_moment.ends tells).at j).logged there).beside
+    where
+      come_live : (j : ℕ) → has after.live j ≡ true → has live j ≡ true
+      come_live j e = carried_live version list from come.to below holders live after.live a b come.carried j e
+
+      onward : journal.last ≤ after.last
+      onward = let grows = come.carried.grows in omega (arith, last, after_last, grows)
+
+  pub comes_by : Comes version journal after ns ns_after a b
   comes_by = record {
-    version = version;
     list = list;
+    goes = record {
+      before = before;
+      leads = leads;
+      flown = subst (λ (set : Members). Flown (Unit {0}) version list (has set) (has after.live) journal.last after.last a b) same_live
+          (subst (λ (k : ℕ). Flown (Unit {0}) version list (has live) (has after.live) k after.last a b) (sym last)
+          (subst (λ (k : ℕ). Flown (Unit {0}) version list (has live) (has after.live) (last_of from) k a b) (sym after_last) flight));
+    };
     stage = come.to;
-    before = before;
-    leads = leads;
-    flown = subst (λ (set : Members). Flown (Unit {0}) version list (has set) (has after.live) journal.last after.last a b) same_live
-        (subst (λ (k : ℕ). Flown (Unit {0}) version list (has live) (has after.live) k after.last a b) (sym last)
-        (subst (λ (k : ℕ). Flown (Unit {0}) version list (has live) (has after.live) (last_of from) k a b) (sym after_last) flight));
     matches = come.matches;
     disks = come.carried.stands tells;
     alone = carried_alone come.carried tells alone;
+    images = still_imaged;
   }
 
 -- marks of segments alone: the list is steady
-pub rolls_by : {told : Type 0} (journal after : JournalSet) (a b : State) → BringsAhead told (place_of journal) (place_of after) journal.holders journal.live after.live a b → ((j : ℕ) → has journal.live j ≡ true → j < a.count) → journal.last < after.last → after.last < spent_from
-    → told → (ns : Namespace) → Stands journal ns a → Comes journal after ns ns a b
-rolls_by {told} journal after a b brought among rose room tells ns stands =
-    let it = brought stands.version stands.list stands.stage stands.matches (λ t. stands.disks) in
-    comes_by tells stands.version stands.list stands.stage journal after journal.holders journal.live ns ns it.0 a b it.2 it.1 refl (stage_last stands.version stands.list stands.stage (place_of journal) stands.matches) among stands.between
-    (record { unsaved = refl; unsaved_after = refl; between = λ n least most. inl (steady n least); ends = steady after.last (omega (arith, rose)); room = room }) stands.alone
+pub leads_steadily : (version : Version) (journal after : JournalSet) (a : State) (ns : Namespace) (stands : Stands version journal ns a) → journal.last ≤ after.last → after.last < spent_from → LeadsTo stands.list (unsaved ns) (unsaved ns) journal.last after.last
+leads_steadily version journal after a ns stands rose room = record { unsaved = refl; unsaved_after = refl; between = λ n least most. inl (steady n least); ends = steady after.last rose; room = room }
   where
-    is_steady : (stage : Stage) → Matches stands.version stands.list stage (place_of journal) → IsSteady stands.list journal.last
+    is_steady : (stage : Stage) → Matches version stands.list stage (place_of journal) → IsSteady stands.list journal.last
     is_steady (Ended end) is = subst (IsSteady stands.list) (sym is.last) is.steady
     is_steady (Going base kept) is = is.steady
 
@@ -139,6 +160,13 @@ rolls_by {told} journal after a b brought among rose room tells ns stands =
     steady n least =
         let e : n ≡ journal.last + (n - journal.last) = omega (arith, least) in
         ap stands.list e ∙ steady_on stands.list journal.last (is_steady stands.stage stands.matches) (n - journal.last) ∙ stands.between.stands
+
+pub rolls_by : {told : Type 0} (journal after : JournalSet) (a b : State) → BringsAhead told (place_of journal) (place_of after) journal.holders journal.live after.live a b → ((j : ℕ) → has journal.live j ≡ true → j < a.count) → journal.last < after.last → after.last < spent_from
+    → told → (version : Version) (ns : Namespace) → Stands version journal ns a → Comes version journal after ns ns a b
+rolls_by {told} journal after a b brought among rose room tells version ns stands =
+    let it = brought version stands.list stands.stage stands.matches (λ t. stands.disks) in
+    comes_by tells version stands.list stands.stage journal after journal.holders journal.live ns ns it.0 a b it.2 it.1 refl (stage_last version stands.list stands.stage (place_of journal) stands.matches) among stands.between
+    (leads_steadily version journal after a ns stands (omega (arith, rose)) room) stands.alone stands.images
 
 -- what is the same in a journal once a record was logged
 pub record Logged (journal logged : JournalSet) (op : Op) : Type 0 where
@@ -161,7 +189,7 @@ module _ {told : Type 0} (journal logged after : JournalSet) (op : Op) (a b : St
   same_text = is.text ∙ ap (λ x. x ++ spelling (next_record (place_of journal) op)) empty
 
   module _ (version : Version) (list : Shared) (base : ℕ) (kept : List Record) (matches : IsInProgress version list base kept [] [] (place_of journal)) (disks : AllAt version list (Going base kept) journal.live a)
-      (alone : AllAlone (Going base kept) journal.live a) (between : BetweenLines version list a.count (has journal.live) (λ i. false) (unsaved ns) journal.last a.now) where
+      (alone : AllAlone (Going base kept) journal.live a) (imaged : AllImaged version list journal.last journal a) (between : BetweenLines version list a.count (has journal.live) (λ i. false) (unsaved ns) journal.last a.now) where
     abbrev longer : Shared
     longer = longer_by list journal.last (effect op ns)
 
@@ -183,7 +211,11 @@ module _ {told : Type 0} (journal logged after : JournalSet) (op : Op) (a b : St
     disks_longer : AllAt version longer (Going base kept) journal.live a
     disks_longer = longer_list_keeps version list longer (Going base kept) journal.live a disks (λ n low. agree n (omega (arith, low, at_last)))
 
-    pub going_comes : Comes journal after ns (effect op ns) a b
+    -- the lists agree up to the last id, and no image is later
+    imaged_longer : AllImaged version longer journal.last journal a
+    imaged_longer j e = let it = imaged j e in record { id = it.id; whole = subst (λ (n : Namespace). IsWhole version it.id n (disk_at a j)) (sym (agree it.id it.low)) it.whole; low = it.low; later = it.later }
+
+    pub going_comes : Comes version journal after ns (effect op ns) a b
     going_comes =
         let it = brought version longer base kept (next_record (place_of journal) op ∷ []) in_progress (λ t. subst (λ (set : Members). AllAt version longer (Going base kept) set a) (sym is.live) disks_longer) in
         comes_by tells version longer (Going base kept) journal after logged.holders logged.live ns (effect op ns) it.0 a b it.2 it.1 is.live at_last among
@@ -198,14 +230,14 @@ module _ {told : Type 0} (journal logged after : JournalSet) (op : Op) (a b : St
           ends = behind after.last (omega (arith, onward, is.last));
           room = room;
         })
-        (subst (λ (set : Members). AllAlone (Going base kept) set a) (sym is.live) alone)
+        (subst (λ (set : Members). AllAlone (Going base kept) set a) (sym is.live) alone) imaged_longer
 
-  pub logs_by : journal.going ≡ true → Stands journal ns a → Comes journal after ns (effect op ns) a b
-  logs_by going stands = by stands.stage stands.matches stands.disks stands.alone
+  pub logs_by : journal.going ≡ true → (version : Version) → Stands version journal ns a → Comes version journal after ns (effect op ns) a b
+  logs_by going version stands = by stands.stage stands.matches stands.disks stands.alone
     where
-      by : (stage : Stage) → Matches stands.version stands.list stage (place_of journal) → AllAt stands.version stands.list stage journal.live a → AllAlone stage journal.live a → Comes journal after ns (effect op ns) a b
+      by : (stage : Stage) → Matches version stands.list stage (place_of journal) → AllAt version stands.list stage journal.live a → AllAlone stage journal.live a → Comes version journal after ns (effect op ns) a b
       by (Ended end) ended disks alone = absurd (let apart = sym going ∙ ended.going in cc)
-      by (Going base kept) matches disks alone = going_comes stands.version stands.list base kept matches disks alone stands.between
+      by (Going base kept) matches disks alone = going_comes version stands.list base kept matches disks alone stands.images stands.between
 
 -- ---- the segments of the live directories
 

@@ -1,19 +1,25 @@
 -- What a line comes to whose record was synced, or that made the journal roll.
-use Rattle.std.proofs.Common.{◌≡◌, ◌≢◌, ⊎_elim, ℕ, ◌+◌, ◌*◌, ◌<◌, ◌≤◌, length, true, false, Option, Some, None, Result, Ok, Err, ◌++◌, refl, sym, ◌∙◌, ap, subst, arith}
+use Rattle.std.proofs.Common.{◌≡◌, ◌≢◌, inr, ⊎_elim, ℕ, ◌+◌, ◌*◌, ◌<◌, ◌≤◌, length, true, false, Option, Some, None, Result, Ok, Err, ◌++◌, refl, sym, ◌∙◌, ap, subst, arith}
 use Rattle.nn_base.specs.DirSets.{has, count_of}
+use Rattle.nn_base.specs.declared.sub.Sub.TheVariants.{Current}
 use Rattle.nn_base.specs.Limits.{most_record}
 use Rattle.nn_base.specs.Paths.{Bytes}
-use Rattle.nn_host.specs.Moments.{State, moment, disk_at, faults_at}
+use Rattle.nn_host.specs.Moments.{Dir, State, moment, disk_at, faults_at}
 use Rattle.nn_host.specs.Calls.{most_said}
 use Rattle.nn_host.specs.Runs.{Unspoken}
 use Rattle.nn_host.specs.declared.host.Failed.{Failed}
 use Rattle.nn_host.proofs.RunsLemmas.{throughout_told, throughout_weaker}
+use Rattle.nn_marks.specs.declared.version.Version.{Version}
 use Rattle.nn_tree.specs.Namespace.{Namespace}
+use Rattle.nn_chain.specs.Folder.{folder_at}
+use Rattle.nn_segment_file.specs.Log.{Shared}
 use Rattle.nn_journal.specs.declared.journal.JournalSet.{JournalSet}
 use Rattle.nn_journal.specs.Among.{EachCounted, StaysLive, IsDropped}
 use Rattle.nn_journal.specs.Places.{Went, full_segment}
 use Rattle.nn_pick.specs.Opening.{Book}
-use Rattle.nn_script.specs.declared.command.ScriptCommand.TheVariants.{Roll}
+use Rattle.nn_kept.specs.Laws.{EachLeft}
+use Rattle.nn_ckpt.specs.Checkpointed.{IsCheckpointed}
+use Rattle.nn_script.specs.declared.command.ScriptCommand.TheVariants.{Roll, Checkpoint}
 use Rattle.nn_script.specs.declared.command.ScriptCommand.{ScriptCommand}
 use Rattle.nn_script.specs.declared.syntax.Syntax.{Syntax}
 use Rattle.nn_script.specs.Reading.{reading_of}
@@ -22,14 +28,15 @@ use Rattle.nn_say.proofs.SayingLemmas.{concat_pieces}
 use Rattle.nn_run.specs.Running.{Sight, RunReply, reply_read, reply_at}
 use Rattle.nn_run.specs.Steps.{BetweenLines, IsLiveAfter}
 use Rattle.nn_run.specs.Flights.{OnlySays, LeadsTo}
-use Rattle.nn_run.proofs.FlightLemmas.{after_flight}
 use Rattle.nn_run.proofs.SyncLemmas.{syncing_is_kept}
-use Rattle.nn_core.specs.declared.event.End.TheVariants.{NoneLeft}
+use Rattle.nn_core.specs.declared.event.End.{End}
+use Rattle.nn_core.specs.declared.event.End.TheVariants.{NoneLeft, Memory}
 use Rattle.nn_core.specs.Ready.{IsReady}
-use Rattle.nn_core.specs.Standing.{unsaved, GoesFrom, Stands, Comes, HasIds}
-use Rattle.nn_core.specs.Written.{IsChange, Takes, Writes, HasWritten}
+use Rattle.nn_core.specs.Standing.{unsaved, GoesFrom, Stands, Goes, Comes, HasIds}
+use Rattle.nn_core.specs.Written.{IsChange, Takes, Writes, AllCheckpointed, HasWritten}
 use Rattle.nn_core.specs.Events.{running, asked_at, Answers, Keeps, StaysStanding, HasLive, HasDropped, Speaks, unless_failed, HasStepped}
 use Rattle.nn_core.proofs.StandLemmas.{going_from}
+use Rattle.nn_core.proofs.EndLemmas.{comes_stand}
 use Rattle.nn_core.proofs.SpokenLemmas.{fronts_of, no_fronts, speaks_by, spoken_as, any_ok, quiet_out, out_by, counts_of, counted_on, all_failed, left_on}
 use Rattle.nn_core.proofs.CallsLemmas.{one_call}
 use Rattle.nn_core.proofs.LineLemmas.{has_answer, reply_is}
@@ -45,36 +52,24 @@ live_by journal after count a b c counted same i below room = ⊎_elim
     ))
     (counted i)
 
-module _ {told : Type 0} (reading : Result (Option ScriptCommand) Syntax) (journal after : JournalSet) (count : ℕ) (ns ns_after : Namespace) (time : ℕ) (a b c : State) (text : Bytes) (some : reading ≢ Ok None)
+module _ {told : Type 0} (reading : Result (Option ScriptCommand) Syntax) (version : Version) (journal after : JournalSet) (count : ℕ) (ns ns_after : Namespace) (time : ℕ) (a b c : State) (text : Bytes) (some : reading ≢ Ok None)
     (reply : (sight : Sight) → reply_read count (running ns time) sight reading ≡ record { text = text; after = running ns_after time }) (listed : a.count ≡ count)
-    (comes : told → HasIds journal → Stands journal ns a → Comes journal after ns ns_after a b) (went : Went told journal.live after.live a b) (fronts : SaysFronts told b c text) where
+    (goes : told → HasIds journal → Stands version journal ns a → (list : Shared) × Goes version list journal after ns ns_after a b) (went : Went told journal.live after.live a b) (fronts : SaysFronts told b c text) where
   synced_reply : (line : Bytes) → reading_of line ≡ reading → reply_at count (running ns time) (asked_at line after.live c) ≡ record { text = text; after = running ns_after time }
   synced_reply line reads = reply_is reading some line reads count (running ns time) (asked_at line after.live c).sight _ (reply (asked_at line after.live c).sight)
 
   quiet : told → Unspoken (Unit {0}) a b
   quiet tells = record { now = went.quiet.now; each = throughout_told (λ u. tells) went.quiet.each }
 
-  synced_kept : Keeps told reading journal count ns time after.live a c
+  synced_kept : Keeps told reading version journal count ns time after.live a c
   synced_kept tells ids stands line reads =
       let is = synced_reply line reads in
-      let it = comes tells ids stands in
-      (syncing_is_kept it.version it.list count (has journal.live) (has after.live) (running ns time) (asked_at line after.live c) journal.last after.last a b c
-      (subst (λ k. BetweenLines it.version it.list k (has journal.live) (λ i. false) (unsaved ns) journal.last a.now) listed it.before) (has_answer reading some line reads)
-      (subst (λ (book : Book). LeadsTo it.list (unsaved ns) book journal.last after.last) (sym (ap (λ (r : RunReply). r.after.book) is)) it.leads) it.flown (quiet tells)
+      let it = goes tells ids stands in
+      (syncing_is_kept version it.0 count (has journal.live) (has after.live) (running ns time) (asked_at line after.live c) journal.last after.last a b c
+      (subst (λ k. BetweenLines version it.0 k (has journal.live) (λ i. false) (unsaved ns) journal.last a.now) listed it.1.before) (has_answer reading some line reads)
+      (subst (λ (book : Book). LeadsTo it.0 (unsaved ns) book journal.last after.last) (sym (ap (λ (r : RunReply). r.after.book) is)) it.1.leads) it.1.flown (quiet tells)
       (throughout_told (λ u. tells) (throughout_weaker went.left (λ t m left. left.grown)))
       (subst (λ x. OnlySays (Unit {0}) x b c) (sym (ap (λ (r : RunReply). r.text) is)) (throughout_told (λ u. tells) fronts))).0
-
-  synced_stands : StaysStanding told journal after ns ns_after a b
-  synced_stands tells ids stands = let it = comes tells ids stands in record {
-    version = it.version;
-    list = it.list;
-    stage = it.stage;
-    matches = it.matches;
-    disks = it.disks;
-    alone = it.alone;
-    between = subst (λ k. BetweenLines it.version it.list k (has after.live) (λ i. false) (unsaved ns_after) after.last b.now) (sym went.quiet.each.count)
-        (after_flight it.version it.list a.count (has journal.live) (has after.live) (unsaved ns) (unsaved ns_after) journal.last after.last a b it.before it.leads it.flown);
-  }
 
   synced_answered : (told → c.now.said ≡ b.now.said ++ text) → ((j : ℕ) → faults_at c j ≡ faults_at b j) → Answers told reading count (running ns time) (running ns_after time) journal.live after.live a c
   synced_answered said faults line reads =
@@ -86,30 +81,39 @@ module _ {told : Type 0} (reading : Result (Option ScriptCommand) Syntax) (journ
         sees_faults = λ i. refl;
       }
 
+-- how they went, where they came
+way_of : {told : Type 0} (version : Version) (journal after : JournalSet) (ns ns_after : Namespace) (a b : State) → (told → HasIds journal → Stands version journal ns a → Comes version journal after ns ns_after a b)
+    → told → HasIds journal → Stands version journal ns a → (list : Shared) × Goes version list journal after ns ns_after a b
+way_of version journal after ns ns_after a b comes tells ids stands = let it = comes tells ids stands in (it.list, it.goes)
+
 -- ---- what it wrote
 
--- what a call of the journal wrote for a line
+-- what a call of the journal, or a checkpoint, wrote for a line
 pub record Wrote (reading : Result (Option ScriptCommand) Syntax) (ns : Namespace) (journal after : JournalSet) : Type 0 where
   pub writes : Writes reading ns
   pub adds : Takes reading ns → after.live ≡ journal.live → journal.size + most_record ≤ full_segment → (after.last ≡ journal.last + 1) × (after.first ≡ journal.first)
-  pub last : after.last + 2 * count_of after.live ≤ journal.last + 3 + 2 * count_of journal.live
+  pub last : after.last + 2 * count_of after.live ≤ journal.last + 8 + 2 * count_of journal.live
   pub begins : reading ≡ Ok (Some Roll) → after.first ≡ after.last
+
+-- What a checkpoint left, where the line asks for one.
+abbrev pub Saved : Type 0 → Result (Option ScriptCommand) Syntax → Version → Namespace → JournalSet → JournalSet → State → State → Type 0
+Saved told reading version ns journal after a b = told → HasIds journal → Stands version journal ns a → reading ≡ Ok (Some Checkpoint) → AllCheckpointed version ns journal after b
 
 -- it took so many calls
 abbrev pub Costs : Type 0 → Result (Option ScriptCommand) Syntax → JournalSet → JournalSet → State → State → Type 0
 Costs told reading journal after a b = told → after.live ≡ journal.live → journal.size + most_record ≤ full_segment → IsChange reading → moment b ≤ moment a + 2 * count_of journal.live
 
-module _ {told : Type 0} (reading : Result (Option ScriptCommand) Syntax) (journal after : JournalSet) (count : ℕ) (ns ns_after : Namespace) (time : ℕ) (a b c : State) (text : Bytes) (said : Result (Unit {0}) Failed) (some : reading ≢ Ok None)
+module _ {told : Type 0} (reading : Result (Option ScriptCommand) Syntax) (version : Version) (journal after : JournalSet) (count : ℕ) (ns ns_after : Namespace) (time : ℕ) (a b c : State) (text : Bytes) (said : Result (Unit {0}) Failed) (some : reading ≢ Ok None)
     (reply : (sight : Sight) → reply_read count (running ns time) sight reading ≡ record { text = text; after = running ns_after time }) (listed : a.count ≡ count)
-    (comes : told → HasIds journal → Stands journal ns a → Comes journal after ns ns_after a b) (went : Went told journal.live after.live a b) (ready : IsReady after count b) (wrote : Wrote reading ns journal after) (costs : Costs told reading journal after a b)
-    (left : HasLive after) (short : (0 < length text) × (length text ≤ most_said)) (says : Says told b c text said) where
+    (comes : told → HasIds journal → Stands version journal ns a → Comes version journal after ns ns_after a b) (went : Went told journal.live after.live a b) (ready : IsReady after count b) (wrote : Wrote reading ns journal after) (costs : Costs told reading journal after a b)
+    (saved : Saved told reading version ns journal after a b) (left : HasLive after) (short : (0 < length text) × (length text ≤ most_said)) (says : Says told b c text said) where
   synced_fronts : SaysFronts told b c text
   synced_fronts = fronts_of text said says
 
-  stands_then : StaysStanding told journal after ns ns_after a c
-  stands_then tells ids stands = stands_same text after ns_after tells synced_fronts (synced_stands reading journal after count ns ns_after time a b c text some reply listed comes went synced_fronts tells ids stands)
+  stands_then : StaysStanding told version journal after ns ns_after a c
+  stands_then tells ids stands = stands_same text version after ns_after tells synced_fronts (comes_stand version journal after ns ns_after a b went.quiet.each.count (comes tells ids stands))
 
-  synced_wrote : HasWritten told reading ns journal after a c (unless_failed said)
+  synced_wrote : HasWritten told reading version ns journal after a c (unless_failed said)
   synced_wrote = record {
     idle = λ none. absurd (none wrote.writes);
     adds = λ takes same small. any_ok (unless_failed said) (wrote.adds takes same small);
@@ -118,7 +122,10 @@ module _ {told : Type 0} (reading : Result (Option ScriptCommand) Syntax) (journ
     begins = λ roll. any_ok (unless_failed said) (wrote.begins roll);
     rolled = λ tells ids stands roll. any_ok (unless_failed said) (
         let it = stands_then tells ids stands in
-        subst (λ (first : ℕ). (j : ℕ) → has after.live j ≡ true → GoesFrom first (disk_at c j)) (wrote.begins roll) (going_from it.version it.list it.stage after c it.matches it.disks it.alone ready.going));
+        subst (λ (first : ℕ). (j : ℕ) → has after.live j ≡ true → GoesFrom first (disk_at c j)) (wrote.begins roll) (going_from version it.list it.stage after c it.matches it.disks it.alone ready.going));
+    checkpointed = λ tells ids stands saves. any_ok (unless_failed said) (
+        let it = saved tells ids stands saves in
+        (it.0, it.1, λ j e. subst (λ (dirs : ℕ → Dir). EachLeft (dirs j).disk (λ d. IsCheckpointed version it.0 after.last ns (folder_at d Current))) (sym (synced_fronts.ends tells).0) (it.2 j e)));
   }
 
   synced_live : HasDropped told reading ns journal after a c (unless_failed said)
@@ -130,63 +137,86 @@ module _ {told : Type 0} (reading : Result (Option ScriptCommand) Syntax) (journ
 
   synced_spoken : Speaks told reading count (running ns time) after.live a c
   synced_spoken line reads =
-      let is = synced_reply reading journal after count ns ns_after time a b c text some reply listed comes went synced_fronts line reads in
+      let is = synced_reply reading version journal after count ns ns_after time a b c text some reply listed (way_of version journal after ns ns_after a b comes) went synced_fronts line reads in
       spoken_as (sym (ap (λ (r : RunReply). r.text) is)) (speaks_by a b c text went.quiet synced_fronts)
 
   synced_ready : IsReady after count c
   synced_ready = record { listed = synced_fronts.count ∙ ready.listed; below = ready.below; going = ready.going; empty = ready.empty; fit = ready.fit }
 
-pub synced_step : {told : Type 0} (reading : Result (Option ScriptCommand) Syntax) (journal after : JournalSet) (count : ℕ) (ns ns_after : Namespace) (time : ℕ) (a b c : State) (text : Bytes) (said : Result (Unit {0}) Failed) → reading ≢ Ok None
+pub synced_step : {told : Type 0} (reading : Result (Option ScriptCommand) Syntax) (version : Version) (journal after : JournalSet) (count : ℕ) (ns ns_after : Namespace) (time : ℕ) (a b c : State) (text : Bytes) (said : Result (Unit {0}) Failed) → reading ≢ Ok None
     → ((sight : Sight) → reply_read count (running ns time) sight reading ≡ record { text = text; after = running ns_after time }) → a.count ≡ count
-    → (told → HasIds journal → Stands journal ns a → Comes journal after ns ns_after a b) → Went told journal.live after.live a b → IsReady after count b → Wrote reading ns journal after → Costs told reading journal after a b
-    → HasLive after → (0 < length text) × (length text ≤ most_said) → Says told b c text said → HasStepped told reading count ns ns_after time time journal after a c (unless_failed said)
-synced_step {told} reading journal after count ns ns_after time a b c text (Ok v) some reply listed comes went ready wrote costs left short says =
+    → (told → HasIds journal → Stands version journal ns a → Comes version journal after ns ns_after a b) → Went told journal.live after.live a b → IsReady after count b → Wrote reading ns journal after → Costs told reading journal after a b → Saved told reading version ns journal after a b
+    → HasLive after → (0 < length text) × (length text ≤ most_said) → Says told b c text said → HasStepped told reading count version ns ns_after time time journal after a c (unless_failed said)
+synced_step {told} reading version journal after count ns ns_after time a b c text (Ok v) some reply listed comes went ready wrote costs saved left short says =
     let fronts = fronts_of text (Ok v) says in record {
-      answered = synced_answered reading journal after count ns ns_after time a b c text some reply listed comes went fronts (λ tells. says.said tells ∙ ap (λ x. b.now.said ++ x) (concat_pieces text)) says.answered.faults;
-      kept = synced_kept reading journal after count ns ns_after time a b c text some reply listed comes went fronts;
-      stands = stands_then reading journal after count ns ns_after time a b c text (Ok v) some reply listed comes went ready wrote costs left short says;
-      ready = synced_ready reading journal after count ns ns_after time a b c text (Ok v) some reply listed comes went ready wrote costs left short says;
-      wrote = synced_wrote reading journal after count ns ns_after time a b c text (Ok v) some reply listed comes went ready wrote costs left short says;
-      live = synced_live reading journal after count ns ns_after time a b c text (Ok v) some reply listed comes went ready wrote costs left short says;
-      spoken = synced_spoken reading journal after count ns ns_after time a b c text (Ok v) some reply listed comes went ready wrote costs left short says;
+      answered = synced_answered reading version journal after count ns ns_after time a b c text some reply listed (way_of version journal after ns ns_after a b comes) went fronts (λ tells. says.said tells ∙ ap (λ x. b.now.said ++ x) (concat_pieces text)) says.answered.faults;
+      kept = synced_kept reading version journal after count ns ns_after time a b c text some reply listed (way_of version journal after ns ns_after a b comes) went fronts;
+      stands = stands_then reading version journal after count ns ns_after time a b c text (Ok v) some reply listed comes went ready wrote costs saved left short says;
+      ready = synced_ready reading version journal after count ns ns_after time a b c text (Ok v) some reply listed comes went ready wrote costs saved left short says;
+      wrote = synced_wrote reading version journal after count ns ns_after time a b c text (Ok v) some reply listed comes went ready wrote costs saved left short says;
+      live = synced_live reading version journal after count ns ns_after time a b c text (Ok v) some reply listed comes went ready wrote costs saved left short says;
+      spoken = synced_spoken reading version journal after count ns ns_after time a b c text (Ok v) some reply listed comes went ready wrote costs saved left short says;
       out = out_by a b c text (Ok v) went.quiet says;
       ended = tt;
     }
-synced_step {told} reading journal after count ns ns_after time a b c text (Err e) some reply listed comes went ready wrote costs left short says =
+synced_step {told} reading version journal after count ns ns_after time a b c text (Err e) some reply listed comes went ready wrote costs saved left short says =
     let fronts = fronts_of text (Err e) says in record {
       answered = tt;
-      kept = synced_kept reading journal after count ns ns_after time a b c text some reply listed comes went fronts;
+      kept = synced_kept reading version journal after count ns ns_after time a b c text some reply listed (way_of version journal after ns ns_after a b comes) went fronts;
       stands = tt;
-      ready = synced_ready reading journal after count ns ns_after time a b c text (Err e) some reply listed comes went ready wrote costs left short says;
-      wrote = synced_wrote reading journal after count ns ns_after time a b c text (Err e) some reply listed comes went ready wrote costs left short says;
-      live = synced_live reading journal after count ns ns_after time a b c text (Err e) some reply listed comes went ready wrote costs left short says;
-      spoken = synced_spoken reading journal after count ns ns_after time a b c text (Err e) some reply listed comes went ready wrote costs left short says;
+      ready = tt;
+      wrote = synced_wrote reading version journal after count ns ns_after time a b c text (Err e) some reply listed comes went ready wrote costs saved left short says;
+      live = synced_live reading version journal after count ns ns_after time a b c text (Err e) some reply listed comes went ready wrote costs saved left short says;
+      spoken = synced_spoken reading version journal after count ns ns_after time a b c text (Err e) some reply listed comes went ready wrote costs saved left short says;
       out = out_by a b c text (Err e) went.quiet says;
       ended = tt;
     }
 
--- no live directory is left: nothing is said
-pub none_left_step : {told : Type 0} (reading : Result (Option ScriptCommand) Syntax) (journal after : JournalSet) (count : ℕ) (ns ns_after : Namespace) (time : ℕ) (a b : State) (text : Bytes) → reading ≢ Ok None
-    → ((sight : Sight) → reply_read count (running ns time) sight reading ≡ record { text = text; after = running ns_after time }) → a.count ≡ count
-    → (told → HasIds journal → Stands journal ns a → Comes journal after ns ns_after a b) → Went told journal.live after.live a b → IsReady after count b → Wrote reading ns journal after → Costs told reading journal after a b
-    → ((j : ℕ) → has after.live j ≡ false) → HasStepped told reading count ns ns time time journal after a b (Err NoneLeft)
-none_left_step {told} reading journal after count ns ns_after time a b text some reply listed comes went ready wrote costs none = record {
-  answered = tt;
-  kept = synced_kept reading journal after count ns ns_after time a b b text some reply listed comes went (no_fronts b text);
-  stands = tt;
-  ready = ready;
-  wrote = record {
+-- ---- nothing was said
+
+module _ {told : Type 0} (reading : Result (Option ScriptCommand) Syntax) (version : Version) (journal after : JournalSet) (count : ℕ) (ns ns_after : Namespace) (time : ℕ) (a b : State) (text : Bytes) (some : reading ≢ Ok None)
+    (reply : (sight : Sight) → reply_read count (running ns time) sight reading ≡ record { text = text; after = running ns_after time }) (listed : a.count ≡ count)
+    (goes : told → HasIds journal → Stands version journal ns a → (list : Shared) × Goes version list journal after ns ns_after a b) (went : Went told journal.live after.live a b) (wrote : Wrote reading ns journal after) (costs : Costs told reading journal after a b) where
+  unsaid_wrote : (end : End) → HasWritten told reading version ns journal after a b (Err end)
+  unsaid_wrote end = record {
     idle = λ no. absurd (no wrote.writes);
     adds = λ takes same small. tt;
     last = wrote.last;
     calls = λ tells change same small. omega (arith, costs tells same small change);
     begins = λ roll. tt;
     rolled = λ tells ids stands roll. tt;
-  };
-  live = record { counted = went.counted; left = went.left; some = tt };
-  spoken = λ line reads.
-      let is = synced_reply reading journal after count ns ns_after time a b b text some reply listed comes went (no_fronts b text) line reads in
-      spoken_as (sym (ap (λ (r : RunReply). r.text) is)) (speaks_by a b b text went.quiet (no_fronts b text));
-  out = quiet_out went.quiet;
-  ended = (all_failed journal after a b went.counted none, went.quiet, refl);
-}
+    checkpointed = λ tells ids stands saves. tt;
+  }
+
+  unsaid_spoken : Speaks told reading count (running ns time) after.live a b
+  unsaid_spoken line reads =
+      let is = synced_reply reading version journal after count ns ns_after time a b b text some reply listed goes went (no_fronts b text) line reads in
+      spoken_as (sym (ap (λ (r : RunReply). r.text) is)) (speaks_by a b b text went.quiet (no_fronts b text))
+
+  -- no live directory is left
+  pub none_left_step : ((j : ℕ) → has after.live j ≡ false) → HasStepped told reading count version ns ns time time journal after a b (Err NoneLeft)
+  none_left_step none = record {
+    answered = tt;
+    kept = synced_kept reading version journal after count ns ns_after time a b b text some reply listed goes went (no_fronts b text);
+    stands = tt;
+    ready = tt;
+    wrote = unsaid_wrote NoneLeft;
+    live = record { counted = went.counted; left = went.left; some = tt };
+    spoken = unsaid_spoken;
+    out = quiet_out went.quiet;
+    ended = (all_failed journal after a b went.counted none, went.quiet, refl);
+  }
+
+  -- there was no memory for a checkpoint that had begun
+  pub unsaved_step : reading ≡ Ok (Some Checkpoint) → HasStepped told reading count version ns ns time time journal after a b (Err Memory)
+  unsaved_step saves = record {
+    answered = tt;
+    kept = synced_kept reading version journal after count ns ns_after time a b b text some reply listed goes went (no_fronts b text);
+    stands = tt;
+    ready = tt;
+    wrote = unsaid_wrote Memory;
+    live = record { counted = went.counted; left = went.left; some = tt };
+    spoken = unsaid_spoken;
+    out = quiet_out went.quiet;
+    ended = (inr saves, went.quiet, refl);
+  }

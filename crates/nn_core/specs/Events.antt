@@ -6,8 +6,10 @@ use Rattle.nn_host.specs.Moments.{State, disk_at, faults_at}
 use Rattle.nn_host.specs.Calls.{next_count}
 use Rattle.nn_host.specs.Runs.{Throughout, Unspoken, OutWhole, SilentAfter}
 use Rattle.nn_host.specs.declared.host.Failed.{Failed}
+use Rattle.nn_marks.specs.declared.version.Version.{Version}
 use Rattle.nn_tree.specs.Namespace.{Namespace}
 use Rattle.nn_script.specs.declared.command.ScriptCommand.{ScriptCommand}
+use Rattle.nn_script.specs.declared.command.ScriptCommand.TheVariants.{Checkpoint}
 use Rattle.nn_script.specs.declared.syntax.Syntax.{Syntax}
 use Rattle.nn_script.specs.declared.answer.Answer.TheVariants.{Unread}
 use Rattle.nn_script.specs.Reading.{IsInRange, reading_of}
@@ -53,13 +55,13 @@ abbrev pub Answers : Type 0 → Result (Option ScriptCommand) Syntax → ℕ →
 Answers told reading count run after live live_after old new = (line : Bytes) → reading_of line ≡ reading → HasAnswered told count run after (has live) (has live_after) (asked_at line live_after new) old new
 
 -- Where the directories stand as the run has them in mind, each moment is kept, whichever line it is.
-abbrev pub Keeps : Type 0 → Result (Option ScriptCommand) Syntax → JournalSet → ℕ → Namespace → ℕ → Members → State → State → Type 0
-Keeps told reading journal count ns time live_after old new = told → HasIds journal → Stands journal ns old → (line : Bytes) → reading_of line ≡ reading
+abbrev pub Keeps : Type 0 → Result (Option ScriptCommand) Syntax → Version → JournalSet → ℕ → Namespace → ℕ → Members → State → State → Type 0
+Keeps told reading version journal count ns time live_after old new = told → HasIds journal → Stands version journal ns old → (line : Bytes) → reading_of line ≡ reading
     → StepKept (Unit {0}) count (running ns time) (has journal.live) (λ i. true) (asked_at line live_after new) old new
 
 -- and so they do behind it
-abbrev pub StaysStanding : Type 0 → JournalSet → JournalSet → Namespace → Namespace → State → State → Type 0
-StaysStanding told journal after ns ns_after old new = told → HasIds journal → Stands journal ns old → Stands after ns_after new
+abbrev pub StaysStanding : Type 0 → Version → JournalSet → JournalSet → Namespace → Namespace → State → State → Type 0
+StaysStanding told version journal after ns ns_after old new = told → HasIds journal → Stands version journal ns old → Stands version after ns_after new
 
 -- ---- which directories are live
 
@@ -96,10 +98,10 @@ OutBy told (Err OutFault) old new = SilentAfter told old new × (new.now.out_fau
 
 -- ---- why it ended a run
 
--- No directory is left, since each live one has failed, and nothing was said. Or there was no memory for a command, and nothing has changed. Or the output failed.
+-- No directory is left, since each live one has failed, and nothing was said. Or there was no memory, and nothing was said: for a command, and nothing has changed, or for a checkpoint. Or the output failed.
 abbrev pub EndsBy : Type 0 → End → Result (Option ScriptCommand) Syntax → JournalSet → JournalSet → Running → Running → State → State → Type 0
 EndsBy told NoneLeft reading journal after run run_after old new = AllFailed journal after old new × Unspoken told old new × (run_after ≡ run)
-EndsBy told Memory reading journal after run run_after old new = IsChange reading × (new ≡ old) × (after ≡ journal) × (run_after ≡ run)
+EndsBy told Memory reading journal after run run_after old new = ((IsChange reading × (new ≡ old) × (after ≡ journal)) ⊎ (reading ≡ Ok (Some Checkpoint))) × Unspoken told old new × (run_after ≡ run)
 EndsBy told OutFault reading journal after run run_after old new = Unit {0}
 
 -- the output failed over an answer, or it was said
@@ -109,16 +111,16 @@ unless_failed (Err failed) = Err OutFault
 
 -- ---- an event
 
--- From this namespace, time and journal to those behind it, over so many directories, an event that reads so came to this.
-pub record HasStepped (told : Type 0) (reading : Result (Option ScriptCommand) Syntax) (count : ℕ) (ns ns_after : Namespace) (time time_after : ℕ) (journal after : JournalSet) (old new : State) (result : Result (Unit {0}) End) : Type 0 where
+-- From this namespace, time and journal to those behind it, over so many directories of this VERSION, an event that reads so came to this.
+pub record HasStepped (told : Type 0) (reading : Result (Option ScriptCommand) Syntax) (count : ℕ) (version : Version) (ns ns_after : Namespace) (time time_after : ℕ) (journal after : JournalSet) (old new : State) (result : Result (Unit {0}) End) : Type 0 where
   -- it was answered: what was said, what the run has come to, and who is live
   pub answered : OnOk result (Answers told reading count (running ns time) (running ns_after time_after) journal.live after.live old new)
   -- at each moment every choice of directories with a live one opens to the Book before it or after it, and to that after it once the answer is said
-  pub kept : Keeps told reading journal count ns time after.live old new
+  pub kept : Keeps told reading version journal count ns time after.live old new
   -- and the directories stand so that the next one may come
-  pub stands : OnOk result (StaysStanding told journal after ns ns_after old new)
-  pub ready : IsReady after count new
-  pub wrote : HasWritten told reading ns journal after old new result
+  pub stands : OnOk result (StaysStanding told version journal after ns ns_after old new)
+  pub ready : OnOk result (IsReady after count new)
+  pub wrote : HasWritten told reading version ns journal after old new result
   pub live : HasDropped told reading ns journal after old new result
   pub spoken : Speaks told reading count (running ns time) after.live old new
   pub out : OutBy told result old new
@@ -128,16 +130,16 @@ pub record HasStepped (told : Type 0) (reading : Result (Option ScriptCommand) S
 -- ---- the end
 
 -- Where they stand so, each moment is kept while the segment in progress is ended, in the one Book.
-abbrev pub EndKeeps : Type 0 → JournalSet → ℕ → Namespace → State → State → Type 0
-EndKeeps told journal count ns old new = told → HasIds journal → Stands journal ns old
+abbrev pub EndKeeps : Type 0 → Version → JournalSet → ℕ → Namespace → State → State → Type 0
+EndKeeps told version journal count ns old new = told → HasIds journal → Stands version journal ns old
     → Throughout (Unit {0}) old new (KeptInto (λ _. unsaved ns ∷ []) count (λ _. is_of_step (has journal.live) old) (λ _. is_of_step (has journal.live) old))
 
 -- The segment in progress was ended in each live directory: nothing was said, each is live where it was and no call on it failed, they stand as before, and none has a segment in progress.
-pub record HasEnded {E : Type 0} (told : Type 0) (count : ℕ) (ns : Namespace) (journal after : JournalSet) (old new : State) (result : Result (Unit {0}) E) : Type 0 where
-  pub kept : EndKeeps told journal count ns old new
-  pub stands : StaysStanding told journal after ns ns old new
+pub record HasEnded {E : Type 0} (told : Type 0) (count : ℕ) (version : Version) (ns : Namespace) (journal after : JournalSet) (old new : State) (result : Result (Unit {0}) E) : Type 0 where
+  pub kept : EndKeeps told version journal count ns old new
+  pub stands : StaysStanding told version journal after ns ns old new
   pub went : Went told journal.live after.live old new
   pub some : OnOk result (HasLive after)
   pub failed : OnErr result (AllFailed journal after old new)
   pub closed : after.going ≡ false
-  pub ended : told → HasIds journal → Stands journal ns old → (j : ℕ) → has after.live j ≡ true → NoneGoes (disk_at new j)
+  pub ended : told → HasIds journal → Stands version journal ns old → (j : ℕ) → has after.live j ≡ true → NoneGoes (disk_at new j)

@@ -15,7 +15,8 @@ pub enum Event {
 pub enum End {
     /// A call on each live directory failed. Nothing was answered.
     NoneLeft,
-    /// Memory ran out before anything was written. Nothing is changed, and nothing was answered.
+    /// Memory ran out, and nothing was answered: over a command before anything was written, or over a checkpoint, after which
+    /// the directories are as after a stop.
     Memory,
     /// The output failed over the answer.
     OutFault,

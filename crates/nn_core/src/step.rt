@@ -1,6 +1,7 @@
 // One event after another.
 ghost use Rattle.std.specs.Prelude.{◌≡◌, ◌≢◌, ◌+◌, ◌<◌, ◌≤◌, ◌^◌, IfOk, OnOk, OnErr, None, Some, Ok, ℕ, true, false};
 ghost use Rattle.nn_base.specs.DirSets.{has};
+ghost use Rattle.nn_tree.specs.Imaged.{IsImaged};
 ghost use Rattle.nn_ops.specs.Bodies.{op_of};
 ghost use Rattle.nn_ops.specs.Commands.{IsCommand};
 ghost use Rattle.nn_ops.specs.Plans.{IsReady as IsPlanned};
@@ -8,7 +9,7 @@ ghost use Rattle.nn_ops.specs.Step.{refusal_of};
 ghost use Rattle.nn_ops.specs.declared.refusal.OpRefusal.TheVariants.{Memory};
 ghost use Rattle.nn_script.specs.declared.answer.Answer.TheVariants.{Refused};
 ghost use Rattle.nn_script.specs.Spelling.{IsSaid};
-ghost use Rattle.nn_script.specs.declared.command.ScriptCommand.TheVariants.{Namespace as ChangeLine, Roll as RollLine};
+ghost use Rattle.nn_script.specs.declared.command.ScriptCommand.TheVariants.{Namespace as ChangeLine, Roll as RollLine, Checkpoint as CheckpointLine};
 ghost use Rattle.nn_script.specs.Reading.{IsInRange};
 ghost use Rattle.nn_core.specs.Ready.{IsReady};
 ghost use Rattle.nn_core.specs.Events.{IsEvent, read_as, unless_failed, HasStepped, HasEnded};
@@ -16,8 +17,10 @@ ghost use Rattle.nn_core.specs.Events.{IsEvent, read_as, unless_failed, HasStepp
 use crate::event::{End, Event};
 use crate::record::{close_segment, roll_segment, write_record};
 use nn_base::{DirNo, DirSet, NoMemory, Txid};
+use nn_ckpt::{RunFault, checkpoint};
 use nn_host::{Failed, Host};
 use nn_journal::{JournalSet, NoneLeft};
+use nn_marks::Version;
 use nn_ops::{Command, OpRefusal, Plan, apply, prepare};
 use nn_say::{Speech, say_dirs, say_list};
 use nn_script::{Answer, ScriptCommand};
@@ -33,6 +36,8 @@ pub struct Core<T: Tree> {
     pub(crate) time: u64,
     /// The journal over all live directories.
     pub(crate) journal: JournalSet,
+    /// What VERSION of each live directory says.
+    pub(crate) version: Version,
     /// How many directories are listed.
     pub(crate) count: u8,
     pub(crate) speech: Speech,
@@ -41,23 +46,25 @@ pub struct Core<T: Tree> {
 }
 
 impl<T: Tree> Core<T> {
-    /// A run of this namespace that begins at this time, in milliseconds, over so many directories. It takes all the memory
-    /// that answering needs.
+    /// A run of this namespace that begins at this time, in milliseconds, over so many directories whose VERSION says this. It
+    /// takes all the memory that answering needs.
     pub fn new(
         alloc: Global,
         tree: T,
         journal: JournalSet,
+        version: Version,
         time: u64,
         count: u8,
     ) -> Result<Core<T>, NoMemory>
         requires early { time < 2 ^ 63 }
         requires few { count ≤ 8 }
-        ensures { IfOk result (λ core. (core.tree ≡ tree) × (core.time ≡ time) × (core.journal ≡ journal) × (core.count ≡ count)) }
+        ensures { IfOk result (λ core. (core.tree ≡ tree) × (core.version ≡ version) × (core.time ≡ time) × (core.journal ≡ journal) × (core.count ≡ count)) }
     {
         Ok(Core {
             tree,
             time,
             journal,
+            version,
             count,
             speech: Speech::new(alloc)?,
         })
@@ -79,13 +86,15 @@ impl<T: Tree> Core<T> {
 
     /// Answers an event. The record of a command is synced in each live directory before its answer is said; a directory in
     /// which a call fails is dropped, and the others roll, so that it ranks below them. An answer goes out in one call of the
-    /// output, a longer listing in several.
+    /// output, a longer listing in several. A checkpoint is of the namespace before its line.
     pub fn step<H: Host>(&mut self, alloc: Global, host: &mut H, event: Event) -> Result<(), End>
         requires ready { IsReady self.old.journal self.old.count (H.state host.old) }
         requires ids { self.old.journal.last + 128 < 2 ^ 63 }
         requires event { IsEvent event }
-        ensures stepped { HasStepped H.told (read_as event) self.old.count (T.meaning self.old.tree) (T.meaning self.new.tree) self.old.time self.new.time self.old.journal self.new.journal (H.state host.old) (H.state host.new) result }
-        ensures count { self.new.count ≡ self.old.count }
+        requires imaged { IsImaged (T.meaning self.old.tree) }
+        ensures stepped { HasStepped H.told (read_as event) self.old.count self.old.version (T.meaning self.old.tree) (T.meaning self.new.tree) self.old.time self.new.time self.old.journal self.new.journal (H.state host.old) (H.state host.new) result }
+        ensures same { (self.new.count ≡ self.old.count) × (self.new.version ≡ self.old.version) }
+        ensures imaged { IsImaged (T.meaning self.old.tree) → IsImaged (T.meaning self.new.tree) }
     {
         match event {
             Event::Line(command) => self.answer(alloc, host, command),
@@ -98,8 +107,8 @@ impl<T: Tree> Core<T> {
     pub fn end<H: Host>(&mut self, host: &mut H) -> Result<(), NoneLeft>
         requires ready { IsReady self.old.journal self.old.count (H.state host.old) }
         requires ids { self.old.journal.last + 128 < 2 ^ 63 }
-        ensures ended { HasEnded H.told self.old.count (T.meaning self.old.tree) self.old.journal self.new.journal (H.state host.old) (H.state host.new) result }
-        ensures kept { (self.new.count ≡ self.old.count) × (T.meaning self.new.tree ≡ T.meaning self.old.tree) × (self.new.time ≡ self.old.time) }
+        ensures ended { HasEnded H.told self.old.count self.old.version (T.meaning self.old.tree) self.old.journal self.new.journal (H.state host.old) (H.state host.new) result }
+        ensures kept { (self.new.count ≡ self.old.count) × (self.new.version ≡ self.old.version) × (T.meaning self.new.tree ≡ T.meaning self.old.tree) × (self.new.time ≡ self.old.time) }
     {
         close_segment(&mut self.journal, host)
     }
@@ -113,8 +122,10 @@ impl<T: Tree> Core<T> {
         requires ready { IsReady self.old.journal self.old.count (H.state host.old) }
         requires ids { self.old.journal.last + 128 < 2 ^ 63 }
         requires range { IsInRange command }
-        ensures stepped { HasStepped H.told (Ok (Some command)) self.old.count (T.meaning self.old.tree) (T.meaning self.new.tree) self.old.time self.new.time self.old.journal self.new.journal (H.state host.old) (H.state host.new) result }
-        ensures count { self.new.count ≡ self.old.count }
+        requires imaged { IsImaged (T.meaning self.old.tree) }
+        ensures stepped { HasStepped H.told (Ok (Some command)) self.old.count self.old.version (T.meaning self.old.tree) (T.meaning self.new.tree) self.old.time self.new.time self.old.journal self.new.journal (H.state host.old) (H.state host.new) result }
+        ensures same { (self.new.count ≡ self.old.count) × (self.new.version ≡ self.old.version) }
+        ensures imaged { IsImaged (T.meaning self.old.tree) → IsImaged (T.meaning self.new.tree) }
     {
         match command {
             ScriptCommand::Namespace(change) => self.change(alloc, host, change),
@@ -130,7 +141,7 @@ impl<T: Tree> Core<T> {
                 unless_failed(say_dirs(host, live, self.count, &mut self.speech))
             }
             ScriptCommand::Roll => self.roll(host),
-            ScriptCommand::Checkpoint => unless_failed(self.speech.say(host, Answer::Later)),
+            ScriptCommand::Checkpoint => self.checkpoint(alloc, host),
             ScriptCommand::Finalize => unless_failed(self.speech.say(host, Answer::Later)),
             ScriptCommand::Restore(_) => unless_failed(self.speech.say(host, Answer::Later)),
         }
@@ -141,8 +152,9 @@ impl<T: Tree> Core<T> {
         requires ready { IsReady self.old.journal self.old.count (H.state host.old) }
         requires ids { self.old.journal.last + 128 < 2 ^ 63 }
         requires command { IsCommand command }
-        ensures stepped { HasStepped H.told (Ok (Some (ChangeLine command))) self.old.count (T.meaning self.old.tree) (T.meaning self.new.tree) self.old.time self.new.time self.old.journal self.new.journal (H.state host.old) (H.state host.new) result }
-        ensures count { self.new.count ≡ self.old.count }
+        ensures stepped { HasStepped H.told (Ok (Some (ChangeLine command))) self.old.count self.old.version (T.meaning self.old.tree) (T.meaning self.new.tree) self.old.time self.new.time self.old.journal self.new.journal (H.state host.old) (H.state host.new) result }
+        ensures same { (self.new.count ≡ self.old.count) × (self.new.version ≡ self.old.version) }
+        ensures imaged { IsImaged (T.meaning self.old.tree) → IsImaged (T.meaning self.new.tree) }
     {
         match prepare(alloc, &mut self.tree, command, self.time) {
             Ok(plan) => self.carry_out(host, plan),
@@ -159,8 +171,9 @@ impl<T: Tree> Core<T> {
         requires ids { self.old.journal.last + 128 < 2 ^ 63 }
         requires plan { IsPlanned plan (T.has self.old.tree) (T.place self.old.tree) (T.spare self.old.tree) (T.meaning self.old.tree) }
         ensures stepped { (command : _) → refusal_of (T.meaning self.old.tree) command ≡ None → plan.op ≡ op_of (T.meaning self.old.tree) command self.old.time →
-            HasStepped H.told (Ok (Some (ChangeLine command))) self.old.count (T.meaning self.old.tree) (T.meaning self.new.tree) self.old.time self.new.time self.old.journal self.new.journal (H.state host.old) (H.state host.new) result }
-        ensures count { self.new.count ≡ self.old.count }
+            HasStepped H.told (Ok (Some (ChangeLine command))) self.old.count self.old.version (T.meaning self.old.tree) (T.meaning self.new.tree) self.old.time self.new.time self.old.journal self.new.journal (H.state host.old) (H.state host.new) result }
+        ensures same { (self.new.count ≡ self.old.count) × (self.new.version ≡ self.old.version) }
+        ensures imaged { IsImaged (T.meaning self.old.tree) → IsImaged (T.meaning self.new.tree) }
     {
         match write_record(&mut self.journal, host, plan.op()) {
             Ok(()) => {
@@ -174,12 +187,29 @@ impl<T: Tree> Core<T> {
     fn roll<H: Host>(&mut self, host: &mut H) -> Result<(), End>
         requires ready { IsReady self.old.journal self.old.count (H.state host.old) }
         requires ids { self.old.journal.last + 128 < 2 ^ 63 }
-        ensures stepped { HasStepped H.told (Ok (Some RollLine)) self.old.count (T.meaning self.old.tree) (T.meaning self.new.tree) self.old.time self.new.time self.old.journal self.new.journal (H.state host.old) (H.state host.new) result }
-        ensures count { self.new.count ≡ self.old.count }
+        ensures stepped { HasStepped H.told (Ok (Some RollLine)) self.old.count self.old.version (T.meaning self.old.tree) (T.meaning self.new.tree) self.old.time self.new.time self.old.journal self.new.journal (H.state host.old) (H.state host.new) result }
+        ensures same { (self.new.count ≡ self.old.count) × (self.new.version ≡ self.old.version) }
+        ensures imaged { IsImaged (T.meaning self.old.tree) → IsImaged (T.meaning self.new.tree) }
     {
         match roll_segment(&mut self.journal, host) {
             Ok(()) => unless_failed(self.speech.say(host, Answer::Done)),
             Err(NoneLeft) => Err(End::NoneLeft),
+        }
+    }
+
+    // Checkpoints the run: its namespace is the one before the line.
+    fn checkpoint<H: Host>(&mut self, alloc: Global, host: &mut H) -> Result<(), End>
+        requires ready { IsReady self.old.journal self.old.count (H.state host.old) }
+        requires ids { self.old.journal.last + 128 < 2 ^ 63 }
+        requires imaged { IsImaged (T.meaning self.old.tree) }
+        ensures stepped { HasStepped H.told (Ok (Some CheckpointLine)) self.old.count self.old.version (T.meaning self.old.tree) (T.meaning self.new.tree) self.old.time self.new.time self.old.journal self.new.journal (H.state host.old) (H.state host.new) result }
+        ensures same { (self.new.count ≡ self.old.count) × (self.new.version ≡ self.old.version) }
+        ensures imaged { IsImaged (T.meaning self.old.tree) → IsImaged (T.meaning self.new.tree) }
+    {
+        match checkpoint(alloc, host, &mut self.journal, &self.tree, &self.version) {
+            Ok(_) => unless_failed(self.speech.say(host, Answer::Done)),
+            Err(RunFault::NoneLeft) => Err(End::NoneLeft),
+            Err(RunFault::Memory) => Err(End::Memory),
         }
     }
 }

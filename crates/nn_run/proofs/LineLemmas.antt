@@ -91,7 +91,7 @@ command_some count run sight (command.Clock time) = answer_some Done
 command_some count run sight (command.List path) = list_some run.book.ns.nodes path
 command_some count run sight command.Dirs = some_behind (dir_lines sight.live count) (answer_text Done) (line_some (answer_words Done))
 command_some count run sight command.Roll = answer_some Done
-command_some count run sight command.Checkpoint = answer_some Later
+command_some count run sight command.Checkpoint = answer_some Done
 command_some count run sight command.Finalize = answer_some Later
 command_some count run sight (command.Restore dir) = answer_some Later
 

@@ -55,7 +55,7 @@ reply_in count run sight (command.Clock time) = plainly run (command.Clock time)
 reply_in count run sight (command.List path) = plainly run (command.List path)
 reply_in count run sight command.Dirs = unchanged (dir_lines sight.live count ++ answer_text Done) run
 reply_in count run sight command.Roll = unchanged (answer_text Done) run
-reply_in count run sight command.Checkpoint = unchanged (answer_text Later) run
+reply_in count run sight command.Checkpoint = unchanged (answer_text Done) run
 reply_in count run sight command.Finalize = unchanged (answer_text Later) run
 reply_in count run sight (command.Restore dir) = unchanged (answer_text Later) run
 

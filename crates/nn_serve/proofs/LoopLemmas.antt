@@ -4,6 +4,7 @@ use Rattle.nn_base.specs.Limits.{most_script}
 use Rattle.nn_base.specs.Paths.{Bytes}
 use Rattle.nn_host.specs.Moments.{State}
 use Rattle.nn_host.specs.Calls.{next_count}
+use Rattle.nn_marks.specs.declared.version.Version.{Version}
 use Rattle.nn_tree.specs.Namespace.{Namespace}
 use Rattle.nn_journal.specs.declared.journal.JournalSet.{JournalSet}
 use Rattle.nn_reader.specs.Reader.{EndedLine, LastLine, NoLine, PastBudget, Stopped}
@@ -24,36 +25,37 @@ use Rattle.nn_serve.proofs.OutLemmas.{out_source, out_long}
 use Rattle.nn_serve.proofs.ServeLemmas.{came_to, came_as, came_closed, lines_more}
 
 -- these lines were answered, and so much of the script is to come
-pub record Answering (told_host told_source : Type 0) (at count : ℕ) (ns : Namespace) (time : ℕ) (journal : JournalSet) (script rest : Bytes) (budget : ℕ) (old s : State) : Type 0 where
+pub record Answering (told_host told_source : Type 0) (at count : ℕ) (version : Version) (ns : Namespace) (time : ℕ) (journal : JournalSet) (script rest : Bytes) (budget : ℕ) (old s : State) : Type 0 where
   pub seen : List Asked
-  pub serving : IsServing told_host at count ns time journal seen old s
+  pub serving : IsServing told_host at count version ns time journal seen old s
   pub room : HasRoom told_host old journal budget
   pub so_far : SoFar told_source script rest budget (lines_of_all seen)
 
 room_less : {told : Type 0} {old : State} {journal : JournalSet} {more : ℕ} (fewer : ℕ) → fewer ≤ more → HasRoom told old journal more → HasRoom told old journal fewer
 room_less fewer le room = record { ids = omega (arith, le, room.ids); few = λ tells begins. omega (arith, le, room.few tells begins) }
 
-pub answering_nothing : {told_host told_source : Type 0} {at count : ℕ} {ns : Namespace} {time : ℕ} {journal : JournalSet} {old s : State} (script ahead : Bytes) (budget : ℕ) → ahead ≡ [] → budget ≡ most_script
-    → IsServing told_host at count ns time journal [] old s → HasRoom told_host old journal most_script → Answering told_host told_source at count ns time journal script (ahead ++ script) budget old s
+pub answering_nothing : {told_host told_source : Type 0} {at count : ℕ} {version : Version} {ns : Namespace} {time : ℕ} {journal : JournalSet} {old s : State} (script ahead : Bytes) (budget : ℕ) → ahead ≡ [] → budget ≡ most_script
+    → IsServing told_host at count version ns time journal [] old s → HasRoom told_host old journal most_script → Answering told_host told_source at count version ns time journal script (ahead ++ script) budget old s
 answering_nothing script ahead budget none whole serving room = record { seen = []; serving = serving; room = room_less budget (omega (arith, whole)) room; so_far = so_far_nothing script ahead budget none whole }
 
 -- a last line takes of it
 pub last_budget : {told : Type 0} {before after line : Bytes} {budget budget_after : ℕ} → LastLine told before after budget budget_after line → 1 ≤ budget
 last_budget read = omega (arith, read.budget, some_length read.body read.some)
 
--- over as many directories
-pub answering_as : {told_host told_source : Type 0} {at n m : ℕ} {ns : Namespace} {time : ℕ} {journal : JournalSet} {script rest : Bytes} {budget : ℕ} {old s : State} → n ≡ m
-    → Answering told_host told_source at n ns time journal script rest budget old s → Answering told_host told_source at m ns time journal script rest budget old s
-answering_as {told_host} {told_source} {at} {ns = ns} {time} {journal} {script} {rest} {budget} {old} {s} same is = subst (λ k. Answering told_host told_source at k ns time journal script rest budget old s) same is
+-- over as many directories of the same VERSION
+pub answering_as : {told_host told_source : Type 0} {at n m : ℕ} {version other : Version} {ns : Namespace} {time : ℕ} {journal : JournalSet} {script rest : Bytes} {budget : ℕ} {old s : State} → n ≡ m → version ≡ other
+    → Answering told_host told_source at n version ns time journal script rest budget old s → Answering told_host told_source at m other ns time journal script rest budget old s
+answering_as {told_host} {told_source} {at} {m = m} {version = version} {ns = ns} {time} {journal} {script} {rest} {budget} {old} {s} same alike is =
+    subst (λ (v : Version). Answering told_host told_source at m v ns time journal script rest budget old s) alike (subst (λ k. Answering told_host told_source at k version ns time journal script rest budget old s) same is)
 
-module _ {told_host told_source : Type 0} {at count : ℕ} {ns : Namespace} {time : ℕ} {journal : JournalSet} {script rest : Bytes} {budget : ℕ} {old s : State} (now : Answering told_host told_source at count ns time journal script rest budget old s) where
+module _ {told_host told_source : Type 0} {at count : ℕ} {version : Version} {ns : Namespace} {time : ℕ} {journal : JournalSet} {script rest : Bytes} {budget : ℕ} {old s : State} (now : Answering told_host told_source at count version ns time journal script rest budget old s) where
   abbrev Came : Bytes → ℕ → ℕ → State → RunEnd → Type 0
   Came left before after new result = CameTo told_host old new run_status (λ lines trace. RunRan told_host told_source at script left before after old new lines) result
 
   -- ---- a line that ended
 
   pub answering_more : {ns_after : Namespace} {time_after : ℕ} {after : JournalSet} {new : State} {line : Bytes} (v : Unit {0}) (ahead left : Bytes) (room : ℕ) → EndedLine told_source rest (ahead ++ left) budget (length ahead + room) line
-      → Turns told_host line count ns ns_after time time_after journal after s new (Ok v) → Answering told_host told_source at count ns_after time_after after script (ahead ++ left) (length ahead + room) old new
+      → Turns told_host line count version ns ns_after time time_after journal after s new (Ok v) → Answering told_host told_source at count version ns_after time_after after script (ahead ++ left) (length ahead + room) old new
   answering_more v ahead left room read turns =
       let next = line_next ahead left room now.so_far read in
       let turn = turns at now.seen old next.whole (length ahead + room) next.alike now.serving (room_less (length ahead + room + 1) (omega (arith, read.budget)) now.room) in record {
@@ -70,7 +72,7 @@ module _ {told_host told_source : Type 0} {at count : ℕ} {ns : Namespace} {tim
 
   -- it ended the run
   pub ends_line : (ns_after : Namespace) (time_after : ℕ) (log : JournalSet) {new : State} {line : Bytes} {before after : ℕ} {result : RunEnd} (why : End) (ahead left : Bytes) (room : ℕ) → EndedLine told_source rest (ahead ++ left) budget (length ahead + room) line
-      → Turns told_host line count ns ns_after time time_after journal log s new (Err why) → after ≡ before → result ≡ run_end why → Came left before after new result
+      → Turns told_host line count version ns ns_after time time_after journal log s new (Err why) → after ≡ before → result ≡ run_end why → Came left before after new result
   ends_line ns_after time_after log {before = before} {after = after} why ahead left room read turns counted is =
       let next = line_next ahead left room now.so_far read in
       let turn = turns at now.seen old next.whole (length ahead + room) next.alike now.serving (room_less (length ahead + room + 1) (omega (arith, read.budget)) now.room) in
@@ -80,7 +82,7 @@ module _ {told_host told_source : Type 0} {at count : ℕ} {ns : Namespace} {tim
   -- ---- the last line
 
   pub ends_last : {ns_after : Namespace} {time_after : ℕ} {log : JournalSet} {new newest : State} {line : Bytes} {before after budget_after : ℕ} {result : RunEnd} (v : Unit {0}) (ahead left : Bytes) → LastLine told_source rest (ahead ++ left) budget budget_after line
-      → Turns told_host line count ns ns_after time time_after journal log s new (Ok v) → Closes told_host count ns_after time_after log new newest result → after ≡ before → Came left before after newest result
+      → Turns told_host line count version ns ns_after time time_after journal log s new (Ok v) → Closes told_host count version ns_after time_after log new newest result → after ≡ before → Came left before after newest result
   ends_last {newest = newest} {before = before} {after = after} {result = result} v ahead left read turns closes counted =
       let last = last_next ahead left now.so_far read in
       let turn = turns at now.seen old last.next.whole 0 last.next.alike now.serving (room_less 1 (last_budget read) now.room) in
@@ -88,7 +90,7 @@ module _ {told_host told_source : Type 0} {at count : ℕ} {ns : Namespace} {tim
       (subst (λ (lines : List Bytes). ScriptRead told_source script left before after AtEnd lines) (sym (lines_more now.seen turn.0 last.next.whole turn.1)) (last.read before after counted))
 
   pub ends_last_line : (ns_after : Namespace) (time_after : ℕ) (log : JournalSet) {new : State} {line : Bytes} {before after budget_after : ℕ} {result : RunEnd} (why : End) (ahead left : Bytes) → LastLine told_source rest (ahead ++ left) budget budget_after line
-      → Turns told_host line count ns ns_after time time_after journal log s new (Err why) → after ≡ before → result ≡ run_end why → Came left before after new result
+      → Turns told_host line count version ns ns_after time time_after journal log s new (Err why) → after ≡ before → result ≡ run_end why → Came left before after new result
   ends_last_line ns_after time_after log {before = before} {after = after} why ahead left read turns counted is =
       let last = last_next ahead left now.so_far read in
       let turn = turns at now.seen old last.next.whole 0 last.next.alike now.serving (room_less 1 (last_budget read) now.room) in
@@ -97,17 +99,17 @@ module _ {told_host told_source : Type 0} {at count : ℕ} {ns : Namespace} {tim
 
   -- ---- no line
 
-  pub ends_none : {new : State} {before after : ℕ} {result : RunEnd} (ahead left : Bytes) → NoLine told_source rest (ahead ++ left) → Closes told_host count ns time journal s new result → after ≡ before → Came left before after new result
+  pub ends_none : {new : State} {before after : ℕ} {result : RunEnd} (ahead left : Bytes) → NoLine told_source rest (ahead ++ left) → Closes told_host count version ns time journal s new result → after ≡ before → Came left before after new result
   ends_none {new} {before} {after} {result} ahead left none closes counted =
       came_closed at script left before after old new now.seen result closes.0 (closes.1 at now.seen old budget now.serving now.room) (none_read ahead left now.so_far none before after counted)
 
   pub ends_long : {before after : ℕ} (ahead left : Bytes) → PastBudget told_source rest (ahead ++ left) budget → ahead ≡ [] → after ≡ before → Came left before after s ScriptTooLong
   ends_long {before} {after} ahead left past none counted =
-      came_to at script left before after old s now.seen ScriptTooLong (out_long at count ns time journal now.seen old s now.serving) (past_read ahead left now.so_far past none before after counted)
+      came_to at script left before after old s now.seen ScriptTooLong (out_long at count version ns time journal now.seen old s now.serving) (past_read ahead left now.so_far past none before after counted)
 
   pub ends_failed : {before after : ℕ} (left : Bytes) → Stopped told_source rest left budget → after ≡ next_count before → Came left before after s SourceFault
   ends_failed {before} {after} left stopped rose =
-      came_to at script left before after old s now.seen SourceFault (out_source at count ns time journal now.seen old s now.serving) (failed_read left now.so_far stopped before after rose)
+      came_to at script left before after old s now.seen SourceFault (out_source at count version ns time journal now.seen old s now.serving) (failed_read left now.so_far stopped before after rose)
 
-pub closes_as : {told : Type 0} {n m : ℕ} {ns : Namespace} {time : ℕ} {journal : JournalSet} {s new : State} {result : RunEnd} → n ≡ m → Closes told n ns time journal s new result → Closes told m ns time journal s new result
-closes_as {told} {ns = ns} {time} {journal} {s} {new} {result} same is = subst (λ k. Closes told k ns time journal s new result) same is
+pub closes_as : {told : Type 0} {n m : ℕ} {version other : Version} {ns : Namespace} {time : ℕ} {journal : JournalSet} {s new : State} {result : RunEnd} → n ≡ m → version ≡ other → Closes told n version ns time journal s new result → Closes told m other ns time journal s new result
+closes_as {told} {m = m} {version = version} {ns = ns} {time} {journal} {s} {new} {result} same alike is = subst (λ (v : Version). Closes told m v ns time journal s new result) alike (subst (λ k. Closes told k version ns time journal s new result) same is)

@@ -10,6 +10,7 @@ use Rattle.nn_host.specs.Calls.{Spoke, next_count}
 use Rattle.nn_host.specs.Runs.{Throughout, Unspoken}
 use Rattle.nn_host.proofs.RunsLemmas.{out_whole_trans, out_whole_unspoken, out_spoke, silent_spoke, silent_after, spoke_front, said_front, unspoken_refl, throughout_refl, throughout_both, throughout_told, throughout_weaker, throughout_trans}
 use Rattle.nn_host.proofs.WorkLemmas.{throughout_said}
+use Rattle.nn_marks.specs.declared.version.Version.{Version}
 use Rattle.nn_tree.specs.Namespace.{Namespace}
 use Rattle.nn_segment_file.specs.Stages.{StandsAt, IsAlone}
 use Rattle.nn_journal.specs.declared.journal.JournalSet.{JournalSet}
@@ -36,6 +37,7 @@ use Rattle.nn_whole.specs.Served.{SeenTruly}
 use Rattle.nn_whole.proofs.CountedLemmas.{first_is_seen}
 use Rattle.nn_whole.proofs.OpenedLemmas.{start_is_of_run, opening_is_said}
 use Rattle.nn_whole.proofs.ServedLemmas.{first_is_said}
+use Rattle.nn_ckpt.specs.Checkpointed.{HasLastImage}
 use Rattle.nn_core.specs.Standing.{unsaved, Stands}
 use Rattle.nn_server.specs.Came.{is_out_fault}
 use Rattle.nn_serve.specs.declared.ending.RunEnd.{RunEnd}
@@ -100,8 +102,8 @@ out_unbegun at old = unstarted_so at old old Memory refl (λ e. cc e) unspoken_r
     (λ answers. inl (refl, refl)) (λ t refusal. ((λ e. cc e), (λ refuses. (inr (inl refl), refl)))) tt (λ never i below. inl refl)
 
 -- nor once it had begun
-pub out_begun : {told : Type 0} (at count : ℕ) (ns : Namespace) (journal : JournalSet) (last : ℕ) (old s : State) → HasBegun told at count ns journal last old s → EndsSo told at old s [] Memory
-out_begun at count ns journal last old s begun = unstarted_so at old s Memory refl (λ e. cc e) begun.quiet begun.kept
+pub out_begun : {told : Type 0} (at count : ℕ) (version : Version) (ns : Namespace) (journal : JournalSet) (last : ℕ) (old s : State) → HasBegun told at count version ns journal last old s → EndsSo told at old s [] Memory
+out_begun at count version ns journal last old s begun = unstarted_so at old s Memory refl (λ e. cc e) begun.quiet begun.kept
     (λ answers. inl (refl, refl)) (λ t refusal. ((λ e. cc e), (λ refuses. absurd (begun.unrefused t refusal refuses)))) tt (λ never i below. inl (begun.counts.faults i))
 
 -- the start came to nothing
@@ -119,7 +121,7 @@ out_unstarted at old s fault.Memory truly reads kept quiet counted = unstarted_s
 
 -- ---- it says that it has started
 
-module _ {told : Type 0} (at count : ℕ) (ns : Namespace) (journal : JournalSet) (last : ℕ) (old s : State) (has_begun : HasBegun told at count ns journal last old s) (bytes : Bytes) (line : bytes ≡ started_line last) (new : State) where
+module _ {told : Type 0} (at count : ℕ) (version : Version) (ns : Namespace) (journal : JournalSet) (last : ℕ) (old s : State) (has_begun : HasBegun told at count version ns journal last old s) (bytes : Bytes) (line : bytes ≡ started_line last) (new : State) where
   says_line : {T E : Type 0} {result : Result T E} → Spoke told bytes s new result → Throughout told s new (λ m. (m.dirs ≡ s.now.dirs) × ((n : ℕ) × (m.said ≡ s.now.said ++ take n bytes)))
   says_line spoke = throughout_both (throughout_said spoke) (said_front spoke)
 
@@ -131,15 +133,15 @@ module _ {told : Type 0} (at count : ℕ) (ns : Namespace) (journal : JournalSet
   says_opening spoke t opened same ctime = throughout_told (λ (u : Unit {0}). t) (throughout_weaker (says_line spoke) (λ t m is. (is.0, is.1.0, is.1.1 ∙ ap (λ x. s.now.said ++ take is.1.0 x) (sym (opening_is opened same ctime)))))
 
   -- the directories stand so as long as they are the same
-  stands_on : {T E : Type 0} {result : Result T E} → Spoke told bytes s new result → Stands journal ns s → Stands journal ns new
+  stands_on : {T E : Type 0} {result : Result T E} → Spoke told bytes s new result → Stands version journal ns s → Stands version journal ns new
   stands_on spoke stands = record {
-    version = stands.version;
     list = stands.list;
     stage = stands.stage;
     matches = stands.matches;
-    disks = λ j e. subst (λ (dirs : ℕ → Dir). StandsAt stands.version stands.list stands.stage (dirs j).disk) (sym spoke.dirs) (stands.disks j e);
+    disks = λ j e. subst (λ (dirs : ℕ → Dir). StandsAt version stands.list stands.stage (dirs j).disk) (sym spoke.dirs) (stands.disks j e);
     alone = λ j e. subst (λ (dirs : ℕ → Dir). IsAlone stands.stage (dirs j).disk) (sym spoke.dirs) (stands.alone j e);
-    between = subst (λ k. BetweenLines stands.version stands.list k (has journal.live) (λ i. false) (unsaved ns) journal.last new.now) (sym spoke.count) (between_same s.now new.now spoke.dirs stands.between);
+    images = λ j e. subst (λ (dirs : ℕ → Dir). HasLastImage version stands.list journal.last (dirs j).disk) (sym spoke.dirs) (stands.images j e);
+    between = subst (λ k. BetweenLines version stands.list k (has journal.live) (λ i. false) (unsaved ns) journal.last new.now) (sym spoke.count) (between_same s.now new.now spoke.dirs stands.between);
   }
 
   started_kept : {T E : Type 0} {result : Result T E} → Spoke told bytes s new result → told → (begins : BeginsSoundly old) (ahead : ℕ → Bool) (rest : List Bytes) → KeptSoFar (asked_at at) begins.sound.opens.version.ctime begins.sound.opened ahead [] rest old new
@@ -147,9 +149,9 @@ module _ {told : Type 0} (at count : ℕ) (ns : Namespace) (journal : JournalSet
       let opened = begins.sound.opened in
       let is = has_begun.opens t opened begins.sound.opens begins.unsaved in
       let stands = has_begun.stands t begins in
-      let counted = subst (λ k. BetweenLines stands.version stands.list k (has journal.live) (λ i. false) (unsaved ns) journal.last s.now) (has_begun.ready.listed ∙ sym has_begun.listed) stands.between in
-      let between = subst (λ b. BetweenLines stands.version stands.list old.count (has journal.live) (λ i. false) b journal.last s.now) (sym is.0) counted in
-      (opening_is_said (asked_at at) begins.sound.opens.version.ctime opened ahead (has journal.live) (λ i. false) stands.version stands.list journal.last rest old s new (omega arith) (has_begun.kept t begins ahead rest) has_begun.quiet.now.said between
+      let counted = subst (λ k. BetweenLines version stands.list k (has journal.live) (λ i. false) (unsaved ns) journal.last s.now) (has_begun.ready.listed ∙ sym has_begun.listed) stands.between in
+      let between = subst (λ b. BetweenLines version stands.list old.count (has journal.live) (λ i. false) b journal.last s.now) (sym is.0) counted in
+      (opening_is_said (asked_at at) begins.sound.opens.version.ctime opened ahead (has journal.live) (λ i. false) version stands.list journal.last rest old s new (omega arith) (has_begun.kept t begins ahead rest) has_begun.quiet.now.said between
       (λ i below. has_begun.all i (subst (λ k. i < k) has_begun.listed below)) (λ i below e. ap (λ w. is_none w || false) begins.unsaved) (says_opening spoke t opened is.1 begins.sound.opens.version.ctime)).0
 
   same_now : {T E : Type 0} {result : Result T E} → Spoke told bytes s new result → (i : ℕ) → faults_at new i ≡ faults_at old i
@@ -178,7 +180,7 @@ module _ {told : Type 0} (at count : ℕ) (ns : Namespace) (journal : JournalSet
             (throughout_weaker (throughout_told (λ (u : Unit {0}). t) (says_line spoke)) (λ u m is some few i below. subst (λ (dirs : ℕ → Dir). IsStarted it.0 it.1 last (dirs i).disk) (sym is.0) (it.3 i below)));
       })
 
-  pub said_so : {T E : Type 0} (done : T) → Spoke {T = T} {E = E} told bytes s new (Ok done) → IsServing told at count ns at journal [] old new
+  pub said_so : {T E : Type 0} (done : T) → Spoke {T = T} {E = E} told bytes s new (Ok done) → IsServing told at count version ns at journal [] old new
   said_so {T} {E} done spoke = record {
     listed = has_begun.listed;
     ready = record { listed = spoke.count ∙ has_begun.ready.listed; below = has_begun.ready.below; going = has_begun.ready.going; empty = has_begun.ready.empty; fit = has_begun.ready.fit };

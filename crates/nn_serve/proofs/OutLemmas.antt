@@ -8,6 +8,7 @@ use Rattle.nn_host.specs.Moments.{State, faults_at}
 use Rattle.nn_host.specs.Calls.{next_count}
 use Rattle.nn_host.specs.Runs.{Throughout}
 use Rattle.nn_host.proofs.RunsLemmas.{silent_after, throughout_told, throughout_weaker}
+use Rattle.nn_marks.specs.declared.version.Version.{Version}
 use Rattle.nn_tree.specs.Namespace.{Namespace}
 use Rattle.nn_pick.specs.declared.intent.Intent.TheVariants.{Start}
 use Rattle.nn_pick.specs.declared.refusal.Refusal.{Refusal}
@@ -37,16 +38,16 @@ use Rattle.nn_serve.specs.Ran.{asked_at, RunSays, BeginsSoundly, CausedBy, SomeL
 use Rattle.nn_serve.specs.Serving.{IsServing, EndsSo}
 use Rattle.nn_serve.proofs.SinceLemmas.{said_of, since_is, since_all, speaks_whole, goes_on, never_refused, all_of, step_counts, none_live, said_here, answers_here, kept_here, first_long, opening_on, starts_on, counted_once}
 
-module _ {told : Type 0} (at count : ℕ) (ns : Namespace) (time : ℕ) (journal : JournalSet) (seen : List Asked) (old s : State) (serving : IsServing told at count ns time journal seen old s) where
+module _ {told : Type 0} (at count : ℕ) (version : Version) (ns : Namespace) (time : ℕ) (journal : JournalSet) (seen : List Asked) (old s : State) (serving : IsServing told at count version ns time journal seen old s) where
   -- what is known on its way
   here_said : told → s.now.said ≡ old.now.said ++ said_of old s
-  here_said = said_here at count ns time journal seen old s serving
+  here_said = said_here at count version ns time journal seen old s serving
 
   here_answers : (t : told) (opened : Opening) (opens : Opens (dirs_of old) Start opened) → opened.book.saved ≡ None → said_of old s ≡ answers_of (asked_at at) old.count opens.version.ctime opened seen
-  here_answers = answers_here at count ns time journal seen old s serving
+  here_answers = answers_here at count version ns time journal seen old s serving
 
   here_kept : (t : told) (begins : BeginsSoundly old) (ahead : ℕ → Bool) (rest : List Asked) → RunKept (Unit {0}) (course_of (asked_at at) old.count begins.sound.opens.version.ctime begins.sound.opened (seen ++ rest) ahead) old s
-  here_kept = kept_here at count ns time journal seen old s serving
+  here_kept = kept_here at count version ns time journal seen old s serving
 
   -- ---- where the script gave no more lines
 
@@ -182,7 +183,7 @@ module _ {told : Type 0} (at count : ℕ) (ns : Namespace) (time : ℕ) (journal
     abbrev next : Asked
     next = seen_at line after.live new
 
-    module _ (why : End) (stepped : HasStepped told reading count ns ns_after time time_after journal after s new (Err why)) where
+    module _ (why : End) (stepped : HasStepped told reading count version ns ns_after time time_after journal after s new (Err why)) where
       sees_after : HasSeen (has after.live) seen old new
       sees_after = next_is_counted (has journal.live) (has after.live) seen old s new serving.sees (step_counts journal after s new stepped.live.counted)
 
@@ -192,7 +193,7 @@ module _ {told : Type 0} (at count : ℕ) (ns : Namespace) (time : ℕ) (journal
       step_kept : (t : told) (begins : BeginsSoundly old) → StepKept (Unit {0}) old.count (after_asked old.count (first_of (asked_at at) begins.sound.opened) seen) (has journal.live) (λ i. true) next s new
       step_kept t begins = step_of t begins next new (stepped.kept t (ids t begins) (serving.stands t begins) line reads)
 
-    out_none : HasStepped told reading count ns ns_after time time_after journal after s new (Err end.NoneLeft) → EndsSo told at old new (seen ++ next ∷ []) NoneLeft
+    out_none : HasStepped told reading count version ns ns_after time time_after journal after s new (Err end.NoneLeft) → EndsSo told at old new (seen ++ next ∷ []) NoneLeft
     out_none stepped =
         let ends = stepped.ended in
         let said : told → new.now.said ≡ old.now.said ++ said_of old s = λ t. ends.1.now.said ∙ here_said t in
@@ -201,7 +202,17 @@ module _ {told : Type 0} (at count : ℕ) (ns : Namespace) (time : ℕ) (journal
         (λ t opened opens none. here_answers t opened opens none ∙ ap (answers_of (asked_at at) old.count opens.version.ctime opened) (sym (all_but_next next)))
         (fronts_of end.NoneLeft stepped) (step_kept end.NoneLeft stepped)
 
-    out_output : HasStepped told reading count ns ns_after time time_after journal after s new (Err end.OutFault) → EndsSo told at old new (seen ++ next ∷ []) OutFault
+    -- want of memory, before anything was done or over a checkpoint
+    out_unsaved : HasStepped told reading count version ns ns_after time time_after journal after s new (Err end.Memory) → EndsSo told at old new (seen ++ next ∷ []) Memory
+    out_unsaved stepped =
+        let ends = stepped.ended in
+        let said : told → new.now.said ≡ old.now.said ++ said_of old s = λ t. ends.1.now.said ∙ here_said t in
+        unanswered next new Memory (said_of old s) (speaks_whole old new (said_of old s) (run_status Memory) refl (goes_on old s new serving.out stepped.out) said) (λ e. cc e) (λ r e. cc e)
+        tt (has after.live) (sees_after end.Memory stepped)
+        (λ t opened opens none. inr (here_answers t opened opens none ∙ ap (answers_of (asked_at at) old.count opens.version.ctime opened) (sym (all_but_next next))))
+        (fronts_of end.Memory stepped) (step_kept end.Memory stepped)
+
+    out_output : HasStepped told reading count version ns ns_after time time_after journal after s new (Err end.OutFault) → EndsSo told at old new (seen ++ next ∷ []) OutFault
     out_output stepped =
         let text = said_of old new in
         let front : told → (n : ℕ) × (new.now.said ≡ old.now.said ++ (said_of old s ++ take n (reply_at count (running ns time) next).text)) = (λ t.
@@ -223,11 +234,7 @@ module _ {told : Type 0} (at count : ℕ) (ns : Namespace) (time : ℕ) (journal
         )))
         (fronts_of end.OutFault stepped) (step_kept end.OutFault stepped)
 
-    pub out_stepped : (why : End) → HasStepped told reading count ns ns_after time time_after journal after s new (Err why) → EndsSo told at old new (seen ++ next ∷ []) (run_end why)
+    pub out_stepped : (why : End) → HasStepped told reading count version ns ns_after time time_after journal after s new (Err why) → EndsSo told at old new (seen ++ next ∷ []) (run_end why)
     out_stepped end.NoneLeft stepped = out_none stepped
     out_stepped end.OutFault stepped = out_output stepped
-    out_stepped end.Memory stepped =
-        let ends = stepped.ended in
-        let same : new ≡ s = ends.1 in
-        subst (λ (z : State). EndsSo told at old z (seen ++ seen_at line after.live z ∷ []) Memory) (sym same)
-        (subst (λ (j : JournalSet). EndsSo told at old s (seen ++ seen_at line j.live s ∷ []) Memory) (sym ends.2) (out_memory line))
+    out_stepped end.Memory stepped = out_unsaved stepped

@@ -8,6 +8,7 @@ use Rattle.std.specs.Fmt.{decimal}
 use Rattle.nn_host.specs.Moments.{State, faults_at}
 use Rattle.nn_host.specs.Calls.{most_said, Spoke}
 use Rattle.nn_marks.proofs.SeenLemmas.{length-decimal_id}
+use Rattle.nn_marks.specs.declared.version.Version.{Version}
 use Rattle.nn_tree.specs.Namespace.{Namespace}
 use Rattle.nn_journal.specs.declared.journal.JournalSet.{JournalSet}
 use Rattle.nn_pick.specs.declared.intent.Intent.TheVariants.{Start}
@@ -100,13 +101,13 @@ pub spoke_as : {T E told : Type 0} {bytes line : Bytes} {s new : State} {result 
 spoke_as {told = told} {s = s} {new} {result} same spoke = subst (λ (b : Bytes). Spoke told b s new result) same spoke
 
 -- it wasn't said that the run has started
-pub came_unsaid : {told_host told_source : Type 0} (at : ℕ) (script : Bytes) (faults count : ℕ) (ns : Namespace) (journal : JournalSet) (last : ℕ) (old s : State) → HasBegun told_host at count ns journal last old s → (new : State) (end : RunEnd) → SaysStarted told_host last s new (Err end)
+pub came_unsaid : {told_host told_source : Type 0} (at : ℕ) (script : Bytes) (faults count : ℕ) (version : Version) (ns : Namespace) (journal : JournalSet) (last : ℕ) (old s : State) → HasBegun told_host at count version ns journal last old s → (new : State) (end : RunEnd) → SaysStarted told_host last s new (Err end)
     → CameTo told_host old new run_status (λ lines trace. RunRan told_host told_source at script script faults faults old new lines) end
-came_unsaid at script faults count ns journal last old s begun new end (inl failed) =
-    came_as failed.0 (came_early at script faults old new OutFault refl (out_unsaid at count ns journal last old s begun (started_line last) refl new failed.1.0 failed.1.1))
-came_unsaid {told_host} at script faults count ns journal last old s begun new end (inr none) =
-    came_as none.0 (came_early at script faults old new Memory refl (subst (λ z. EndsSo told_host at old z [] Memory) (sym none.1) (out_begun at count ns journal last old s begun)))
+came_unsaid at script faults count version ns journal last old s begun new end (inl failed) =
+    came_as failed.0 (came_early at script faults old new OutFault refl (out_unsaid at count version ns journal last old s begun (started_line last) refl new failed.1.0 failed.1.1))
+came_unsaid {told_host} at script faults count version ns journal last old s begun new end (inr none) =
+    came_as none.0 (came_early at script faults old new Memory refl (subst (λ z. EndsSo told_host at old z [] Memory) (sym none.1) (out_begun at count version ns journal last old s begun)))
 
 -- at the same time
-pub serving_as : {told : Type 0} {at count : ℕ} {ns : Namespace} {time other : ℕ} {journal : JournalSet} {seen : List Asked} {old s : State} → time ≡ other → IsServing told at count ns time journal seen old s → IsServing told at count ns other journal seen old s
-serving_as {told} {at} {count} {ns} {journal = journal} {seen} {old} {s} same is = subst (λ t. IsServing told at count ns t journal seen old s) same is
+pub serving_as : {told : Type 0} {at count : ℕ} {version : Version} {ns : Namespace} {time other : ℕ} {journal : JournalSet} {seen : List Asked} {old s : State} → time ≡ other → IsServing told at count version ns time journal seen old s → IsServing told at count version ns other journal seen old s
+serving_as {told} {at} {count} {version} {ns} {journal = journal} {seen} {old} {s} same is = subst (λ t. IsServing told at count version ns t journal seen old s) same is

@@ -10,6 +10,7 @@ use Rattle.nn_base.specs.Paths.{Bytes}
 use Rattle.nn_host.specs.Moments.{State, Moment}
 use Rattle.nn_host.specs.Calls.{next_count}
 use Rattle.nn_host.proofs.RunsLemmas.{out_whole_trans, silent_whole, throughout_trans, throughout_weaker}
+use Rattle.nn_marks.specs.declared.version.Version.{Version}
 use Rattle.nn_tree.specs.Namespace.{Namespace}
 use Rattle.nn_pick.specs.declared.intent.Intent.TheVariants.{Start}
 use Rattle.nn_pick.specs.declared.refusal.Refusal.{Refusal}
@@ -79,7 +80,7 @@ none_live after old new counts none i below = elim (counts.each i below) [
   | inr gone ↦ gone.1
 ]
 
-module _ {told : Type 0} (at count : ℕ) (ns : Namespace) (time : ℕ) (journal : JournalSet) (seen : List Asked) (old s : State) (serving : IsServing told at count ns time journal seen old s) where
+module _ {told : Type 0} (at count : ℕ) (version : Version) (ns : Namespace) (time : ℕ) (journal : JournalSet) (seen : List Asked) (old s : State) (serving : IsServing told at count version ns time journal seen old s) where
   pub said_here : told → s.now.said ≡ old.now.said ++ said_of old s
   said_here t = let grew = serving.grew t in since_all old s grew.0 grew.1
 

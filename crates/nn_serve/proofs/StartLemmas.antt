@@ -80,21 +80,24 @@ module _ {told : Type 0} (at : ℕ) (old s : State) (ns : Namespace) (last : ℕ
   book_so : told → (opened : Opening) → Opens (dirs_of old) Start opened → opened.book.saved ≡ None → opened.book ≡ unsaved ns
   book_so t opened opens none = let ns_is = (opened_so t opened opens).0 in λ k. record { ns = ns_is k; saved = none k }
 
-  begun_stands : told → BeginsSoundly old → Stands journal ns s
+  begun_stands : told → BeginsSoundly old → Stands version journal ns s
   begun_stands t begins =
       let it = started t begins.sound (shared_at old begins) (starts_from old begins) in
       let list = (shared_at old begins).ns version.ctime in
       let few : last + 1 < spent_from = (let high = begins.room in omega (arith, high, (opened_so t begins.sound.opened begins.sound.opens).1)) in record {
-        version = version;
         list = list;
         stage = first_stage last;
         matches = it.begun.matches;
         disks = it.begun.stand;
         alone = it.begun.alone;
+        images = λ j e.
+            let is = it.begun.each j (let below = ready.below j e in let count = quiet.each.count in omega (arith, below, count)) in
+            let next = ready.last_id in
+            record { id = last; whole = is.whole; low = omega (arith, next); later = is.later };
         between = subst (λ (n : ℕ). BetweenLines version list s.count (has journal.live) (λ i. false) (unsaved ns) n s.now) (sym ready.last_id) (between_unsaved (shared_at old begins) version last ns states journal s it.begun begins.unsaved few);
       }
 
-  pub begun : HasBegun told at old.count ns journal last old s
+  pub begun : HasBegun told at old.count version ns journal last old s
   begun = record {
     listed = refl;
     ready = record { listed = quiet.each.count; below = ready.below; going = ready.going; empty = ready.empty; fit = ready.fit };
@@ -113,13 +116,13 @@ module _ {told : Type 0} (at : ℕ) (old s : State) (ns : Namespace) (last : ℕ
   }
 
 -- the same, under other names
-pub begun_as : {told : Type 0} {at count other : ℕ} {ns renamed : Namespace} {journal log : JournalSet} {last : ℕ} {old s : State} → count ≡ other → ns ≡ renamed → journal ≡ log → HasBegun told at count ns journal last old s → HasBegun told at other renamed log last old s
-begun_as {told} {at} {other = other} {ns = ns} {renamed = renamed} {journal = journal} {last = last} {old} {s} same_count same_ns same_journal is =
-    subst (λ (j : JournalSet). HasBegun told at other renamed j last old s) same_journal
-    (subst (λ (n : Namespace). HasBegun told at other n journal last old s) same_ns (subst (λ (k : ℕ). HasBegun told at k ns journal last old s) same_count is))
+pub begun_as : {told : Type 0} {at count other : ℕ} {version alike : Version} {ns renamed : Namespace} {journal log : JournalSet} {last : ℕ} {old s : State} → count ≡ other → version ≡ alike → ns ≡ renamed → journal ≡ log → HasBegun told at count version ns journal last old s → HasBegun told at other alike renamed log last old s
+begun_as {told} {at} {other = other} {version = version} {alike = alike} {ns = ns} {renamed = renamed} {journal = journal} {last = last} {old} {s} same_count same_version same_ns same_journal is =
+    subst (λ (j : JournalSet). HasBegun told at other alike renamed j last old s) same_journal
+    (subst (λ (n : Namespace). HasBegun told at other alike n journal last old s) same_ns (subst (λ (v : Version). HasBegun told at other v ns journal last old s) same_version (subst (λ (k : ℕ). HasBegun told at k version ns journal last old s) same_count is)))
 
 -- there are ids for a whole script
-pub begun_room : {told : Type 0} {at count : ℕ} {ns : Namespace} {journal : JournalSet} {last : ℕ} {old s : State} → HasBegun told at count ns journal last old s → HasRoom told old journal most_script
+pub begun_room : {told : Type 0} {at count : ℕ} {version : Version} {ns : Namespace} {journal : JournalSet} {last : ℕ} {old s : State} → HasBegun told at count version ns journal last old s → HasRoom told old journal most_script
 begun_room {journal = journal} it = record {
   ids = omega (arith, it.room, it.last_id, at_most_eight journal.live);
   few = λ tells begins. (let high = begins.room in let same = (it.opens tells begins.sound.opened begins.sound.opens begins.unsaved).1 in omega (arith, high, same, it.last_id, at_most_eight journal.live));

@@ -6,6 +6,7 @@ use Rattle.nn_base.specs.DirSets.{has, count_of}
 use Rattle.nn_base.specs.Paths.{Bytes}
 use Rattle.nn_host.specs.Moments.{State}
 use Rattle.nn_host.proofs.RunsLemmas.{throughout_told, throughout_weaker}
+use Rattle.nn_marks.specs.declared.version.Version.{Version}
 use Rattle.nn_tree.specs.Namespace.{Namespace}
 use Rattle.nn_pick.specs.declared.intent.Intent.TheVariants.{Start}
 use Rattle.nn_pick.specs.Opening.{Opening, Opens}
@@ -38,7 +39,7 @@ pub room_ids : {told : Type 0} {old : State} {journal : JournalSet} {more : ℕ}
 room_ids room tells begins = omega (arith, room.few tells begins)
 
 -- a line takes at most so many ids
-room_after : {told : Type 0} {old : State} {journal after : JournalSet} (more : ℕ) → HasRoom told old journal (more + 1) → after.last + 2 * count_of after.live ≤ journal.last + 3 + 2 * count_of journal.live → HasRoom told old after more
+room_after : {told : Type 0} {old : State} {journal after : JournalSet} (more : ℕ) → HasRoom told old journal (more + 1) → after.last + 2 * count_of after.live ≤ journal.last + 8 + 2 * count_of journal.live → HasRoom told old after more
 room_after more room last = record { ids = omega (arith, room.ids, last); few = λ tells begins. omega (arith, room.few tells begins, last) }
 
 -- ---- a line that was answered
@@ -47,8 +48,8 @@ room_after more room last = record { ids = omega (arith, room.ids, last); few = 
 one_more : (count : ℕ) (seen : List Asked) (next : Asked) → All (IsLeftAt count) seen → IsLeftAt count next → All (IsLeftAt count) (seen ++ next ∷ [])
 one_more count seen next all one = All-append (IsLeftAt count) seen (next ∷ []) all (All-cons (IsLeftAt count) next [] one (All-nil (IsLeftAt count)))
 
-module _ {told : Type 0} (at count : ℕ) (ns ns_after : Namespace) (time time_after : ℕ) (journal after : JournalSet) (seen : List Asked) (old s new : State) (serving : IsServing told at count ns time journal seen old s)
-    (reading : Result (Option ScriptCommand) Syntax) (line : Bytes) (reads : reading_of line ≡ reading) (v : Unit {0}) (stepped : HasStepped told reading count ns ns_after time time_after journal after s new (Ok v)) where
+module _ {told : Type 0} (at count : ℕ) (version : Version) (ns ns_after : Namespace) (time time_after : ℕ) (journal after : JournalSet) (seen : List Asked) (old s new : State) (serving : IsServing told at count version ns time journal seen old s)
+    (reading : Result (Option ScriptCommand) Syntax) (line : Bytes) (reads : reading_of line ≡ reading) (v : Unit {0}) (stepped : HasStepped told reading count version ns ns_after time time_after journal after s new (Ok v)) where
   abbrev next : Asked
   next = seen_at line after.live new
 
@@ -88,7 +89,7 @@ module _ {told : Type 0} (at count : ℕ) (ns ns_after : Namespace) (time time_a
       (serving.kept tells begins ahead (line ∷ rest))
       (renamed tells opened opens begins.unsaved (λ k run. StepKept (Unit {0}) k run (has journal.live) (λ i. true) next s new) (stepped.kept tells (ids tells begins) (serving.stands tells begins) line reads))
 
-  pub turned : (more : ℕ) → HasRoom told old journal (more + 1) → IsServing told at count ns_after time_after after (seen ++ next ∷ []) old new × HasRoom told old after more
+  pub turned : (more : ℕ) → HasRoom told old journal (more + 1) → IsServing told at count version ns_after time_after after (seen ++ next ∷ []) old new × HasRoom told old after more
   turned more room = (
     record {
       listed = serving.listed;
@@ -128,9 +129,9 @@ silent_line count run sight line reads = elim (cases_Bool (has_no_answer line)) 
   | inr spoken ↦ absurd (read_some count run sight line spoken (ap (λ r. (reply_read count run sight r).text) reads))
 ]
 
-pub silent : {told : Type 0} (at count : ℕ) (ns : Namespace) (time : ℕ) (journal : JournalSet) (seen : List Asked) (old s : State) → IsServing told at count ns time journal seen old s → (line : Bytes) → reading_of line ≡ Ok None → (more : ℕ) → HasRoom told old journal (more + 1)
-    → IsServing told at count ns time journal (seen ++ seen_at line journal.live s ∷ []) old s × HasRoom told old journal more
-silent at count ns time journal seen old s serving line reads more room = (
+pub silent : {told : Type 0} (at count : ℕ) (version : Version) (ns : Namespace) (time : ℕ) (journal : JournalSet) (seen : List Asked) (old s : State) → IsServing told at count version ns time journal seen old s → (line : Bytes) → reading_of line ≡ Ok None → (more : ℕ) → HasRoom told old journal (more + 1)
+    → IsServing told at count version ns time journal (seen ++ seen_at line journal.live s ∷ []) old s × HasRoom told old journal more
+silent at count version ns time journal seen old s serving line reads more room = (
   record {
     listed = serving.listed;
     ready = serving.ready;
@@ -157,11 +158,11 @@ silent at count ns time journal seen old s serving line reads more room = (
 
 -- ---- whatever an event came to
 
-pub turned_to : {told : Type 0} (at count : ℕ) (ns ns_after : Namespace) (time time_after : ℕ) (journal after : JournalSet) (seen : List Asked) (old s new : State) → IsServing told at count ns time journal seen old s
-    → (reading : Result (Option ScriptCommand) Syntax) (line : Bytes) → reading_of line ≡ reading → (result : Result (Unit {0}) End) → HasStepped told reading count ns ns_after time time_after journal after s new result
-    → (more : ℕ) → HasRoom told old journal (more + 1) → TurnsTo told at count ns_after time_after after seen line more old new result
-turned_to at count ns ns_after time time_after journal after seen old s new serving reading line reads (Ok v) stepped more room =
-    let it = turned at count ns ns_after time time_after journal after seen old s new serving reading line reads v stepped more room in
+pub turned_to : {told : Type 0} (at count : ℕ) (version : Version) (ns ns_after : Namespace) (time time_after : ℕ) (journal after : JournalSet) (seen : List Asked) (old s new : State) → IsServing told at count version ns time journal seen old s
+    → (reading : Result (Option ScriptCommand) Syntax) (line : Bytes) → reading_of line ≡ reading → (result : Result (Unit {0}) End) → HasStepped told reading count version ns ns_after time time_after journal after s new result
+    → (more : ℕ) → HasRoom told old journal (more + 1) → TurnsTo told at count version ns_after time_after after seen line more old new result
+turned_to at count version ns ns_after time time_after journal after seen old s new serving reading line reads (Ok v) stepped more room =
+    let it = turned at count version ns ns_after time time_after journal after seen old s new serving reading line reads v stepped more room in
     (seen_at line after.live new, refl, it.0, it.1)
-turned_to at count ns ns_after time time_after journal after seen old s new serving reading line reads (Err end) stepped more room =
-    (seen_at line after.live new, refl, out_stepped at count ns time journal seen old s serving reading ns_after time_after after new (room_ids room) line reads end stepped)
+turned_to at count version ns ns_after time time_after journal after seen old s new serving reading line reads (Err end) stepped more room =
+    (seen_at line after.live new, refl, out_stepped at count version ns time journal seen old s serving reading ns_after time_after after new (room_ids room) line reads end stepped)

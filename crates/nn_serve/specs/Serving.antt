@@ -29,7 +29,7 @@ use Rattle.nn_serve.specs.Ran.{asked_at, RunSays, AsItStarts, NoneFailed, Starts
 -- ---- on its way
 
 -- It has begun, over so many directories that are all live, and has said nothing: they came to this namespace at this id, if they open so.
-pub record HasBegun (told : Type 0) (at count : ℕ) (ns : Namespace) (journal : JournalSet) (last : ℕ) (old s : State) : Type 0 where
+pub record HasBegun (told : Type 0) (at count : ℕ) (version : Version) (ns : Namespace) (journal : JournalSet) (last : ℕ) (old s : State) : Type 0 where
   pub listed : old.count ≡ count
   pub ready : IsReady journal count s
   pub all : (i : ℕ) → i < count → has journal.live i ≡ true
@@ -41,10 +41,10 @@ pub record HasBegun (told : Type 0) (at count : ℕ) (ns : Namespace) (journal :
   pub unrefused : told → (refusal : Refusal) → ¬ Refuses (dirs_of old) Start refusal
   pub started : told → (begins : BeginsSoundly old) → (version : Version) × (list : ℕ → Namespace) × (list last ≡ begins.sound.opened.book.ns) × ((i : ℕ) → i < old.count → IsStarted version list last (disk_at s i))
   pub kept : told → (begins : BeginsSoundly old) (ahead : ℕ → Bool) (rest : List Bytes) → KeptSoFar (asked_at at) begins.sound.opens.version.ctime begins.sound.opened ahead [] rest old s
-  pub stands : told → BeginsSoundly old → Stands journal ns s
+  pub stands : told → BeginsSoundly old → Stands version journal ns s
 
 -- It has answered these lines: which directories are live and how the output fared, of every host; what was said, and what the run has come to; and that each moment was kept, and the directories stand so.
-pub record IsServing (told : Type 0) (at count : ℕ) (ns : Namespace) (time : ℕ) (journal : JournalSet) (seen : List Asked) (old s : State) : Type 0 where
+pub record IsServing (told : Type 0) (at count : ℕ) (version : Version) (ns : Namespace) (time : ℕ) (journal : JournalSet) (seen : List Asked) (old s : State) : Type 0 where
   pub listed : old.count ≡ count
   pub ready : IsReady journal count s
   pub sees : HasSeen (has journal.live) seen old s
@@ -58,12 +58,12 @@ pub record IsServing (told : Type 0) (at count : ℕ) (ns : Namespace) (time : �
   pub opening : told → (opened : Opening) → Opens (dirs_of old) Start opened → opened.book.saved ≡ None → Throughout (Unit {0}) old s (AsItStarts opened.last old (NoneFailed old))
   pub started : told → (begins : BeginsSoundly old) → StartsAll old s begins.sound.opened.last begins.sound.opened.book.ns
   pub kept : told → (begins : BeginsSoundly old) (ahead : ℕ → Bool) (rest : List Bytes) → KeptSoFar (asked_at at) begins.sound.opens.version.ctime begins.sound.opened ahead seen rest old s
-  pub stands : told → BeginsSoundly old → Stands journal ns s
+  pub stands : told → BeginsSoundly old → Stands version journal ns s
 
 -- there are ids for so many lines more
 pub record HasRoom (told : Type 0) (old : State) (journal : JournalSet) (more : ℕ) : Type 0 where
-  pub ids : journal.last + 2 * count_of journal.live + 3 * more + 128 < 2 ^ 63
-  pub few : told → BeginsSoundly old → journal.last + 2 * count_of journal.live + 3 * more + 128 < spent_from
+  pub ids : journal.last + 2 * count_of journal.live + 8 * more + 128 < 2 ^ 63
+  pub few : told → BeginsSoundly old → journal.last + 2 * count_of journal.live + 8 * more + 128 < spent_from
 
 -- ---- at its end
 

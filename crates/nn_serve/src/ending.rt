@@ -22,7 +22,8 @@ pub enum RunEnd {
     SourceFault,
     /// The script has more than 2^26 bytes. The lines that end within them were answered.
     ScriptTooLong,
-    /// Memory ran out, before the run had started or over a line of which nothing was written yet.
+    /// Memory ran out: before the run had started, over a line of which nothing was written yet, or over a checkpoint, which was
+    /// not answered.
     Memory,
     /// The output failed: nothing more was said.
     OutFault,

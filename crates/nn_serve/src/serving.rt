@@ -3,6 +3,7 @@ ghost use Rattle.std.specs.Prelude.{◌≡◌, ◌+◌, ◌*◌, ◌<◌, ◌≤
 ghost use Rattle.nn_base.specs.DirSets.{count_of};
 ghost use Rattle.nn_base.specs.Limits.{most_script};
 ghost use Rattle.nn_host.specs.Moments.{State};
+ghost use Rattle.nn_tree.specs.Imaged.{IsImaged};
 ghost use Rattle.nn_reader.specs.Reader.{ahead, budget};
 ghost use Rattle.nn_script.specs.Reading.{reading_of};
 ghost use Rattle.nn_core.specs.Ready.{IsReady};
@@ -35,7 +36,8 @@ pub(crate) fn serve<H: Host, S: Source, T: Tree>(
     requires budget { budget reader.old ≡ most_script }
     requires ready { IsReady core.old.journal core.old.count (H.state host.old) }
     requires ids { core.old.journal.last ≤ 2 ^ 62 }
-    ensures { (at : ℕ) (origin : State) → IsServing H.told at core.old.count (T.meaning core.old.tree) core.old.time core.old.journal [] origin (H.state host.old) → HasRoom H.told origin core.old.journal most_script →
+    requires imaged { IsImaged (T.meaning core.old.tree) }
+    ensures { (at : ℕ) (origin : State) → IsServing H.told at core.old.count core.old.version (T.meaning core.old.tree) core.old.time core.old.journal [] origin (H.state host.old) → HasRoom H.told origin core.old.journal most_script →
         CameTo H.told origin (H.state host.new) run_status (λ lines trace. RunRan H.told S.told at (S.left source.old) (S.left source.new) (S.faults source.old) (S.faults source.new) origin (H.state host.new) lines) result }
 {
     'lines: loop {
@@ -64,10 +66,12 @@ fn answer<H: Host, T: Tree>(
 ) -> Result<(), End>
     requires ready { IsReady core.old.journal core.old.count (H.state host.old) }
     requires ids { core.old.journal.last + 128 < 2 ^ 63 }
-    ensures turns { Turns H.told line.now core.old.count (T.meaning core.old.tree) (T.meaning core.new.tree) core.old.time core.new.time core.old.journal core.new.journal (H.state host.old) (H.state host.new) result }
+    requires imaged { IsImaged (T.meaning core.old.tree) }
+    ensures turns { Turns H.told line.now core.old.count core.old.version (T.meaning core.old.tree) (T.meaning core.new.tree) core.old.time core.new.time core.old.journal core.new.journal (H.state host.old) (H.state host.new) result }
     ensures ready { OnOk result (IsReady core.new.journal core.old.count (H.state host.new)) }
-    ensures last { core.new.journal.last + 2 * count_of core.new.journal.live ≤ core.old.journal.last + 3 + 2 * count_of core.old.journal.live }
-    ensures count { core.new.count ≡ core.old.count }
+    ensures last { core.new.journal.last + 2 * count_of core.new.journal.live ≤ core.old.journal.last + 8 + 2 * count_of core.old.journal.live }
+    ensures same { (core.new.count ≡ core.old.count) × (core.new.version ≡ core.old.version) }
+    ensures imaged { IsImaged (T.meaning core.new.tree) }
 {
     match read_event(alloc, line) {
         Ok(Some(event)) => core.step(alloc, host, event),
@@ -93,7 +97,7 @@ fn read_event(alloc: Global, line: &[u8]) -> Result<Option<Event>, NoMemory>
 fn close<H: Host, T: Tree>(host: &mut H, core: &mut Core<T>) -> RunEnd
     requires ready { IsReady core.old.journal core.old.count (H.state host.old) }
     requires ids { core.old.journal.last + 128 < 2 ^ 63 }
-    ensures { Closes H.told core.old.count (T.meaning core.old.tree) core.old.time core.old.journal (H.state host.old) (H.state host.new) result }
+    ensures { Closes H.told core.old.count core.old.version (T.meaning core.old.tree) core.old.time core.old.journal (H.state host.old) (H.state host.new) result }
 {
     match core.end(host) {
         Ok(()) => RunEnd::Ended,

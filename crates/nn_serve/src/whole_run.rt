@@ -6,6 +6,7 @@ ghost use Rattle.nn_host.specs.Moments.{State};
 ghost use Rattle.nn_run.specs.Course.{started_line};
 ghost use Rattle.nn_reader.specs.Reader.{ahead, budget};
 ghost use Rattle.nn_reader.specs.Script.{OnTheWay};
+ghost use Rattle.nn_tree.specs.Imaged.{IsImaged};
 ghost use Rattle.nn_core.specs.Ready.{IsReady};
 ghost use Rattle.nn_server.specs.Came.{CameTo};
 ghost use Rattle.nn_serve.specs.Ended.{run_status, run_reached};
@@ -60,7 +61,8 @@ fn go_on<H: Host, S: Source, T: Tree>(
     requires ready { IsReady begun.core.journal begun.core.count (H.state host.old) }
     requires room { begun.last < 2 ^ 62 }
     requires last { begun.core.journal.last ≡ begun.last + 1 }
-    ensures { (at : ℕ) (origin : State) → begun.core.time ≡ at → HasBegun H.told at begun.core.count (T.meaning begun.core.tree) begun.core.journal begun.last origin (H.state host.old) →
+    requires imaged { IsImaged (T.meaning begun.core.tree) }
+    ensures { (at : ℕ) (origin : State) → begun.core.time ≡ at → HasBegun H.told at begun.core.count begun.core.version (T.meaning begun.core.tree) begun.core.journal begun.last origin (H.state host.old) →
         CameTo H.told origin (H.state host.new) run_status (λ lines trace. RunRan H.told S.told at (S.left source.old) (S.left source.new) (S.faults source.old) (S.faults source.new) origin (H.state host.new) lines) result }
 {
     let mut core = begun.core;
@@ -80,8 +82,9 @@ struct Begun<T: Tree> {
 // Starts over all directories, of which the last id is told.
 fn begin<H: Host, T: Tree>(alloc: Global, host: &mut H, at: u64) -> Result<Begun<T>, RunEnd>
     requires early { at < 2 ^ 63 }
-    ensures ok { IfOk result (λ it. HasBegun H.told at it.core.count (T.meaning it.core.tree) it.core.journal it.last (H.state host.old) (H.state host.new)) }
+    ensures ok { IfOk result (λ it. HasBegun H.told at it.core.count it.core.version (T.meaning it.core.tree) it.core.journal it.last (H.state host.old) (H.state host.new)) }
     ensures time { IfOk result (λ it. it.core.time ≡ at) }
+    ensures imaged { IfOk result (λ it. IsImaged (T.meaning it.core.tree)) }
     ensures err { IfErr result (λ end. EndsSo H.told at (H.state host.old) (H.state host.new) [] end) }
     ensures early { IfErr result (λ end. run_reached end ≡ OnTheWay) }
 {
@@ -90,7 +93,14 @@ fn begin<H: Host, T: Tree>(alloc: Global, host: &mut H, at: u64) -> Result<Begun
         Err(fault) => return Err(unstarted(fault)),
     };
     let last = opened.last;
-    match Core::new(alloc, opened.tree, opened.journal, at, host.count()) {
+    match Core::new(
+        alloc,
+        opened.tree,
+        opened.journal,
+        opened.version,
+        at,
+        host.count(),
+    ) {
         Ok(core) => Ok(Begun { core, last }),
         Err(NoMemory) => Err(RunEnd::Memory),
     }

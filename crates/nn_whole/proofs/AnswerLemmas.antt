@@ -110,7 +110,7 @@ command_so count run sight (command.Clock time) = answer_so answer.Done
 command_so count run sight (command.List path) = listed_so run.book.ns.nodes path (list_refusal run.book.ns.nodes path)
 command_so count run sight command.Dirs = dirs_so sight.live count
 command_so count run sight command.Roll = answer_so answer.Done
-command_so count run sight command.Checkpoint = answer_so answer.Later
+command_so count run sight command.Checkpoint = answer_so answer.Done
 command_so count run sight command.Finalize = answer_so answer.Later
 command_so count run sight (command.Restore dir) = answer_so answer.Later
 

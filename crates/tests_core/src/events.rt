@@ -1,5 +1,5 @@
 // What is said to lines, and what directories hold behind them, whatever fails.
-use crate::run::{A, B, BEGUN, LAYOUT, answer, answer_all, begun};
+use crate::run::{A, B, BEGUN, LAYOUT, Run};
 use nn_base::{DirNo, FileName, Sub, Txid};
 use nn_core::End;
 use nn_host::Host;
@@ -33,7 +33,7 @@ static LINES: [(&str, &str); 14] = [
     ("list /c", "refused not-found\n"),
     ("dirs", "dir 0 live\ndir 1 live\nok\n"),
     ("roll", "ok\n"),
-    ("checkpoint", "refused later\n"),
+    ("checkpoint", "ok\n"),
     ("finalize", "refused later\n"),
     ("restore 1", "refused later\n"),
     ("delete /a", "ok\n"),
@@ -43,8 +43,15 @@ fn lines() -> &'static [(&'static str, &'static str)] {
     &LINES
 }
 
-// Lines whose answers don't tell which directories are live.
-static SCRIPT: [&str; 5] = ["mkdir /a", "mkdir /a", "mkdir /a/b", "roll", "delete /a"];
+// Lines whose answers don't tell which directories are live. Its one checkpoint leaves one image, so no segment goes.
+static SCRIPT: [&str; 6] = [
+    "mkdir /a",
+    "mkdir /a",
+    "mkdir /a/b",
+    "checkpoint",
+    "roll",
+    "delete /a",
+];
 
 fn script() -> &'static [&'static str] {
     &SCRIPT
@@ -88,21 +95,30 @@ fn each_line_is_answered_and_each_command_that_is_taken_has_one_record(
     rt: HostRuntime,
 ) -> Result<(), Fail> {
     let alloc = rt.alloc();
-    let (mut host, mut core) = begun(alloc, Vec::new(alloc))?;
-    assert!(rt; host.calls() == BEGUN);
+    let mut run = Run::begun(alloc, Vec::new(alloc))?;
+    assert!(rt; run.calls() == BEGUN);
     for (line, told) in lines() {
-        let from = host.said().len();
-        let end = answer(alloc, &mut host, &mut core, line.as_bytes())?;
+        let from = run.said().len();
+        let end = run.answer(alloc, line.as_bytes())?;
         assert!(rt; end.is_none());
-        assert!(rt; host.said().get(from..) == Some(told.as_bytes()), "{line}");
+        assert!(rt; run.said().get(from..) == Some(told.as_bytes()), "{line}");
     }
-    // A mark, two directories made, two marks of the roll, and what was removed.
-    assert!(rt; core.last() == Txid(6));
+    // A mark, two directories made, two marks of the roll and two of the checkpoint, and what was removed.
+    let (mut host, core) = run.parts();
+    assert!(rt; core.last() == Txid(8));
     for i in [A, B] {
         assert!(rt; core.live(i));
-        assert!(rt; reached(alloc, &mut host, i) == Some(6));
+        assert!(rt; reached(alloc, &mut host, i) == Some(8));
     }
     Ok(())
+}
+
+// What a run of the script came to where a call fails: how it ended, and what it said.
+fn failing(alloc: Global, k: u64, part: Part) -> Result<(Run, Option<End>), Fail> {
+    let fails = Vec::from_array(alloc, [(k, part)])?;
+    let mut run = Run::begun(alloc, fails)?;
+    let end = run.answer_all(alloc, script())?;
+    Ok((run, end))
 }
 
 #[test]
@@ -110,18 +126,18 @@ fn a_call_that_fails_drops_its_directory_and_changes_no_answer_or_fails_an_answe
     rt: HostRuntime,
 ) -> Result<(), Fail> {
     let alloc = rt.alloc();
-    let (mut whole, mut core) = begun(alloc, Vec::new(alloc))?;
-    assert!(rt; answer_all(alloc, &mut whole, &mut core, script())?.is_none());
+    let mut whole = Run::begun(alloc, Vec::new(alloc))?;
+    assert!(rt; whole.answer_all(alloc, script())?.is_none());
     for k in BEGUN..whole.calls() {
         for part in parts() {
-            let fails = Vec::from_array(alloc, [(k, *part)])?;
-            let (mut host, mut core) = begun(alloc, fails)?;
-            if let Some(end) = answer_all(alloc, &mut host, &mut core, script())? {
+            let (run, end) = failing(alloc, k, *part)?;
+            if let Some(end) = end {
                 assert!(rt; end == End::OutFault, "{k} {part:?}");
-                assert!(rt; whole.said().starts_with(host.said()), "{k} {part:?}");
+                assert!(rt; whole.said().starts_with(run.said()), "{k} {part:?}");
                 continue;
             }
-            assert!(rt; host.said() == whole.said(), "{k} {part:?}");
+            assert!(rt; run.said() == whole.said(), "{k} {part:?}");
+            let (mut host, core) = run.parts();
             assert!(rt; core.live(A) != core.live(B), "{k} {part:?}");
             let (stays, gone) = if core.live(A) { (A, B) } else { (B, A) };
             let high = reached(alloc, &mut host, stays);
@@ -144,10 +160,11 @@ fn a_command_is_not_answered_where_no_directory_is_left(rt: HostRuntime) -> Resu
                 (BEGUN + first + 1, Part::Nothing),
             ],
         )?;
-        let (mut host, mut core) = begun(alloc, fails)?;
-        let end = answer_all(alloc, &mut host, &mut core, script())?;
+        let mut run = Run::begun(alloc, fails)?;
+        let end = run.answer_all(alloc, script())?;
         assert!(rt; end == Some(End::NoneLeft), "{first}");
-        assert!(rt; host.said().is_empty());
+        assert!(rt; run.said().is_empty());
+        let (_, core) = run.parts();
         assert!(rt; !core.live(A) && !core.live(B));
     }
     Ok(())
@@ -158,13 +175,14 @@ fn a_stop_at_any_call_leaves_in_each_directory_the_records_of_all_that_was_answe
     rt: HostRuntime,
 ) -> Result<(), Fail> {
     let alloc = rt.alloc();
-    let (mut host, mut core) = begun(alloc, Vec::new(alloc))?;
+    let mut run = Run::begun(alloc, Vec::new(alloc))?;
     // How many calls there were as each line was answered, and its last id.
     let mut answered = Vec::new(alloc);
     for line in script() {
-        assert!(rt; answer(alloc, &mut host, &mut core, line.as_bytes())?.is_none());
-        answered.push((host.calls(), core.last().0))?;
+        assert!(rt; run.answer(alloc, line.as_bytes())?.is_none());
+        answered.push((run.calls(), run.last().0))?;
     }
+    let (host, _) = run.parts();
     for k in BEGUN..host.calls() {
         for done in [false, true] {
             for keep in keeps() {

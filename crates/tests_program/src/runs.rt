@@ -2,6 +2,7 @@
 ghost use Rattle.std.specs.Prelude.{◌≡◌, ◌≤◌, ◌<◌, OnOk};
 ghost use Rattle.nn_memhost.specs.Mem.{mem_state};
 
+mod checkpoints;
 mod running;
 mod scripts;
 

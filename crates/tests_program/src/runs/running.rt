@@ -8,7 +8,11 @@ use std::process::Abort;
 use std::test::Fail;
 
 // Two directories that were just formatted, where the calls of these numbers fail.
-fn fresh(rt: &impl Abort, alloc: Global, fails: &[(u64, Part)]) -> Result<MemHost, NoMemory> {
+pub(super) fn fresh(
+    rt: &impl Abort,
+    alloc: Global,
+    fails: &[(u64, Part)],
+) -> Result<MemHost, NoMemory> {
     let mut host = host_of(rt, alloc, ". .", fails)?;
     let _formatted = run(
         rt,
@@ -20,7 +24,7 @@ fn fresh(rt: &impl Abort, alloc: Global, fails: &[(u64, Part)]) -> Result<MemHos
 }
 
 // Runs the words over a script, and answers the exit status.
-fn run_script(
+pub(super) fn run_script(
     rt: &impl Abort,
     alloc: Global,
     line: &str,
@@ -40,7 +44,7 @@ struct Tale {
     said: &'static str,
 }
 
-const TALES: [Tale; 7] = [
+const TALES: [Tale; 8] = [
     Tale {
         words: "run A B",
         script: "",
@@ -73,9 +77,15 @@ const TALES: [Tale; 7] = [
     },
     Tale {
         words: "run A B",
-        script: "checkpoint\nfinalize\nrestore 0\nmkdri /a\n# none\n\nmkdir a\n",
+        script: "finalize\nrestore 0\nmkdri /a\n# none\n\nmkdir a\n",
         next: "",
-        said: "started 0\nrefused later\nrefused later\nrefused later\nsyntax unknown\nsyntax path relative\nstopped\nstarted 2\nstopped\n",
+        said: "started 0\nrefused later\nrefused later\nsyntax unknown\nsyntax path relative\nstopped\nstarted 2\nstopped\n",
+    },
+    Tale {
+        words: "run A B",
+        script: "mkdir /a\ncheckpoint\nmkdir /b\n",
+        next: "list /\ncheckpoint",
+        said: "started 0\nok\nok\nok\nstopped\nstarted 6\nd 16385 0755 hdfs supergroup 0 - - 3 0 /\nd 16386 0755 hdfs supergroup 0 - - 1 0 /a\nd 16387 0755 hdfs supergroup 0 - - 1 0 /b\nok 3\nok\nstopped\n",
     },
     Tale {
         words: "run A B",
@@ -173,7 +183,7 @@ struct FailingRow {
 const NEVER: u64 = u64::MAX;
 
 // A command appends to a directory and syncs there, and then in the next; the fifth call says its answer.
-const FAILING: [FailingRow; 6] = [
+const FAILING: [FailingRow; 9] = [
     FailingRow {
         fails: [(3, Part::Nothing), (NEVER, Part::Nothing)],
         script: "mkdir /a\ndirs\n",
@@ -196,6 +206,25 @@ const FAILING: [FailingRow; 6] = [
         fails: [(6, Part::All), (8, Part::All)],
         script: "mkdir /a\nmkdir /b\n",
         said: "started 0\nok\nnone left\nstarted 3\nstopped\n",
+        codes: (4, 0),
+    },
+    // A checkpoint ends the segment by three calls in each, and then writes the image in each.
+    FailingRow {
+        fails: [(1, Part::Half), (NEVER, Part::Nothing)],
+        script: "checkpoint\ndirs\n",
+        said: "started 0\nok\ndir 0 dropped\ndir 1 live\nok\nstopped\nstarted 6\nstopped\n",
+        codes: (0, 0),
+    },
+    FailingRow {
+        fails: [(18, Part::All), (NEVER, Part::Nothing)],
+        script: "checkpoint\ndirs\n",
+        said: "started 0\nok\ndir 0 live\ndir 1 dropped\nok\nstopped\nstarted 6\nstopped\n",
+        codes: (0, 0),
+    },
+    FailingRow {
+        fails: [(6, Part::Nothing), (7, Part::Nothing)],
+        script: "checkpoint\ndirs\n",
+        said: "started 0\nnone left\nstarted 2\nstopped\n",
         codes: (4, 0),
     },
     FailingRow {
@@ -309,7 +338,7 @@ fn a_stop_inside_any_call_of_a_run_leaves_what_the_next_start_opens(
     let alloc = rt.alloc();
     let (formatted, _all) = calls_of_an_empty_run(&rt, alloc)?;
     let mut host = fresh(&rt, alloc, &[])?;
-    let script = "mkdir /a\nroll\nmkdir /b\n";
+    let script = "mkdir /a\nroll\ncheckpoint\nmkdir /b\n";
     let _status = run_script(&rt, alloc, "run A B", script, &mut host)?;
     // All was answered before the last segment is ended, which takes seven calls.
     let answered = host.calls().saturating_sub(7);

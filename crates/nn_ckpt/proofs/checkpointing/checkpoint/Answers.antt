@@ -1,8 +1,9 @@
-use Rattle.std.proofs.Common.{◌≡◌, ℕ, ◌≤◌, false, Ok, Err, arith}
-use Rattle.nn_base.specs.DirSets.{has}
+use Rattle.std.proofs.Common.{◌∙◌, sym, ap, ◌≡◌, ℕ, ◌≤◌, false, Ok, Err, arith}
+use Rattle.nn_base.specs.DirSets.{has, count_of}
 use Rattle.nn_base.proofs.DirSetLemmas.{at_most_eight}
+use Rattle.nn_journal.proofs.CarriedLemmas.{still_live}
 use Rattle.nn_journal.proofs.BringsLemmas.{went_both}
-use Rattle.nn_ckpt.proofs.CheckpointLemmas.{first_brought, so_published, then_brought, then_gone, faulted, left_on, same_after, publishing, all_checkpointed}
+use Rattle.nn_ckpt.proofs.CheckpointLemmas.{first_brought, so_published, then_brought, then_gone, faulted, left_on, same_between, same_after, publishing, all_checkpointed}
 use Rattle.nn_ckpt.proofs.checkpointing.checkpoint.Goals as goal
 
 pub publish_all-requires-clause-ids : goal.publish_all-requires-clause-ids
@@ -77,3 +78,20 @@ returns-clause-checkpoints g c = λ tells list stage is same.
       each = all_checkpointed tells c.args.version.now list ns c.publish_all.new.journal c.start_segment.new.self c.purge.new.journal c.last-id.result published.stands c.in_ok-publish_all.ensures.kept.2 low two
           c.in_ok-start_segment.ensures.brought c.in_ok-start_segment.ensures.went c.in_ok-purge.ensures.went all.stands purges.1 (list_is c.last-id.result after) (list_is c.purge.new.journal.last (omega (arith, after, behind)));
     }
+
+pub returns-clause-next : goal.returns-clause-next
+returns-clause-next g c = λ same.
+    let first = still_live c.in_ok-end_segment.ensures.went.counted in
+    let second = still_live c.in_ok-publish_all.ensures.went.counted in
+    let third = still_live c.in_ok-start_segment.ensures.went.counted in
+    let last = still_live c.in_ok-purge.ensures.went.counted in
+    let l0 = c.args.journal.now.live in
+    let ended = same_between l0 c.end_segment.new.self.live c.purge.new.journal.live first (λ j e. second j (third j (last j e))) same in
+    let published = same_between l0 c.publish_all.new.journal.live c.purge.new.journal.live (λ j e. first j (second j e)) (λ j e. third j (last j e)) same in
+    let begun = same_between l0 c.start_segment.new.self.live c.purge.new.journal.live (λ j e. first j (second j (third j e))) last same in
+    let one = c.in_ok-end_segment.ensures.next ended in
+    let more = c.in_ok-start_segment.ensures.next (begun ∙ sym published) in
+    let id = c.last-id.ensures in
+    let kept : c.publish_all.new.journal.last ≡ c.end_segment.new.self.last = omega (arith, c.in_ok-publish_all.ensures.last, c.in_ok-publish_all.ensures.onward, ap count_of ended, ap count_of published) in
+    let still : c.purge.new.journal.last ≡ c.start_segment.new.self.last = omega (arith, c.in_ok-purge.ensures.last, c.in_ok-purge.ensures.onward, ap count_of same, ap count_of begun) in
+    (omega (arith, id, one), omega (arith, id, kept, more, still))

@@ -1,7 +1,7 @@
 use Rattle.std.proofs.Common.{Err, refl, arith}
 use Rattle.nn_ckpt.specs.declared.fault.RunFault.TheVariants.{Memory}
 use Rattle.nn_ckpt.proofs.DroppedLemmas.{went_dropped}
-use Rattle.nn_ckpt.proofs.PurgesLemmas.{purges_err, purges_ok}
+use Rattle.nn_ckpt.proofs.PurgesLemmas.{purges_err, purges_ok, purges_exact}
 use Rattle.nn_ckpt.proofs.purging.purge.Goals as goal
 
 pub drop_failed-requires-clause-below : goal.drop_failed-requires-clause-below
@@ -15,6 +15,9 @@ returns-in_err-drop_failed-clause-went g c = went_dropped c.purge_each-done.ensu
 
 pub returns-in-Ok-clause-purges : goal.returns-in-Ok-clause-purges
 returns-in-Ok-clause-purges g c = purges_ok (λ tells. g.met.H.Host.lawful tells c.args.host.now) c.purge_each-done.ensures.each c.in_ok-drop_failed.ensures.drops c.in-Ok.ensures.done
+
+pub returns-in-Ok-clause-exact : goal.returns-in-Ok-clause-exact
+returns-in-Ok-clause-exact g c = λ tells same. purges_exact (λ tells. g.met.H.Host.lawful tells c.args.host.now) c.purge_each-done.ensures.each c.in_ok-drop_failed.ensures.drops same c.in-Ok.ensures.done tells
 
 pub returns-in-Ok-clause-went : goal.returns-in-Ok-clause-went
 returns-in-Ok-clause-went g c = went_dropped c.purge_each-done.ensures.each c.in_ok-drop_failed.ensures.drops

@@ -11,6 +11,7 @@ pub lines-init : goal.lines-init
 lines-init g c = record {
   ready = c.requires.ready;
   count = refl;
+  imaged = c.requires.imaged;
   ids = omega (arith, c.requires.ids, c.requires.budget, at_most_eight c.args.core.now.journal.live);
   faults = refl;
   answering = λ at origin serving room. answering_nothing (g.S.Source.left c.args.source.now) (ahead c.args.reader.now) (budget c.args.reader.now) c.requires.ahead c.requires.budget serving room;
@@ -20,11 +21,12 @@ pub lines-preserved : goal.lines-preserved
 lines-preserved g c =
     let line = line_read_so c.in-Ok-Line.field-0 c.in-Ok-Line.field-0-is c.line.ensures c.in-Ok-Line.ensures.ok in
     let new = c.answer.new.core in record {
-      ready = subst (λ k. IsReady new.journal k (g.H.Host.state c.answer.new.host)) (sym c.in-Ok.ensures.count) c.in-Ok.ensures.ready;
-      count = c.in-Ok.ensures.count ∙ c.lines.invariant.count;
+      ready = subst (λ k. IsReady new.journal k (g.H.Host.state c.answer.new.host)) (sym c.in-Ok.ensures.same.0) c.in-Ok.ensures.ready;
+      count = c.in-Ok.ensures.same.0 ∙ c.lines.invariant.count;
+      imaged = c.in-Ok.ensures.imaged;
       ids = omega (arith, c.lines.invariant.ids, c.in-Ok.ensures.last, line.budget);
       faults = c.in-Ok-Line.ensures.counted_ok ∙ c.lines.invariant.faults;
-      answering = λ at origin serving room. answering_as (sym c.in-Ok.ensures.count)
+      answering = λ at origin serving room. answering_as (sym c.in-Ok.ensures.same.0) (sym c.in-Ok.ensures.same.1)
           (answering_more (c.lines.invariant.answering at origin serving room) c.in-Ok.field-0 (ahead c.next.new.self) (g.S.Source.left c.next.new.source) c.next.new.self.room line c.in-Ok.ensures.turns);
     }
 
@@ -43,7 +45,7 @@ close-requires-clause-ids g c =
 pub returns-in-Ok-answer : goal.returns-in-Ok-answer
 returns-in-Ok-answer g c = λ at origin serving room.
     let last = last_read_so c.in-Ok-Last.field-0 c.in-Ok-Last.field-0-is c.line-in-Ok-Last.ensures c.in-Ok-Last.ensures.ok in
-    ends_last (c.lines.invariant.answering at origin serving room) c.in-Ok-answer.field-0 (ahead c.next.new.self) (g.S.Source.left c.next.new.source) last c.in-Ok-answer.ensures.turns (closes_as c.in-Ok-answer.ensures.count c.close.ensures)
+    ends_last (c.lines.invariant.answering at origin serving room) c.in-Ok-answer.field-0 (ahead c.next.new.self) (g.S.Source.left c.next.new.source) last c.in-Ok-answer.ensures.turns (closes_as c.in-Ok-answer.ensures.same.0 c.in-Ok-answer.ensures.same.1 c.close.ensures)
     (c.in-Ok-Last.ensures.counted_ok ∙ c.lines.invariant.faults)
 
 pub returns-in-Err-answer-2 : goal.returns-in-Err-answer-2

@@ -18,7 +18,7 @@ returns-in-Ok-new-clause-ok g c =
     let is = c.in-Ok.ensures in
     let it = c.in-Ok.opened in
     let core = c.in-Ok-new.ensures in
-    begun_as (sym (core.3 ∙ c.count.ensures.count ∙ is.quiet.each.count)) (ap g.T.Tree.meaning (sym core.0)) (sym core.2)
+    begun_as (sym (core.4 ∙ c.count.ensures.count ∙ is.quiet.each.count)) (sym core.1) (ap g.T.Tree.meaning (sym core.0)) (sym core.3)
     (begun c.args.at old s (g.T.Tree.meaning it.tree) it.last it.version it.bay.at.items it.journal is.ok is.ready is.started is.kept is.quiet is.cause is.room)
 
 pub returns-clause-err : goal.returns-clause-err
@@ -27,5 +27,5 @@ returns-clause-err g c =
     let s = g.H.Host.state c.start.new.host in
     let is = c.in-Ok.ensures in
     let it = c.in-Ok.opened in
-    out_begun c.args.at old.count (g.T.Tree.meaning it.tree) it.journal it.last old s
+    out_begun c.args.at old.count it.version (g.T.Tree.meaning it.tree) it.journal it.last old s
     (begun c.args.at old s (g.T.Tree.meaning it.tree) it.last it.version it.bay.at.items it.journal is.ok is.ready is.started is.kept is.quiet is.cause is.room)

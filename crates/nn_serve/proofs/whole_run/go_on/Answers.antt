@@ -9,10 +9,10 @@ pub returns-in-Ok : goal.returns-in-Ok
 returns-in-Ok g c = λ at origin time begun.
     let it = c.args.begun in
     c.serve.ensures at origin
-    (serving_as (sym time) (said_so at it.core.count (g.T.Tree.meaning it.core.tree) it.core.journal it.last origin (g.H.Host.state c.args.host.now) begun (started_line it.last) refl (g.H.Host.state c.say_started.new.host) c.in-Ok.field-0 c.in-Ok.ensures))
+    (serving_as (sym time) (said_so at it.core.count it.core.version (g.T.Tree.meaning it.core.tree) it.core.journal it.last origin (g.H.Host.state c.args.host.now) begun (started_line it.last) refl (g.H.Host.state c.say_started.new.host) c.in-Ok.field-0 c.in-Ok.ensures))
     (begun_room begun)
 
 pub returns : goal.returns
 returns g c = λ at origin time begun.
     let it = c.args.begun in
-    came_unsaid at (g.S.Source.left c.args.source.now) (g.S.Source.faults c.args.source.now) it.core.count (g.T.Tree.meaning it.core.tree) it.core.journal it.last origin (g.H.Host.state c.args.host.now) begun (g.H.Host.state c.say_started.new.host) c.in-Err.end c.in-Err.ensures
+    came_unsaid at (g.S.Source.left c.args.source.now) (g.S.Source.faults c.args.source.now) it.core.count it.core.version (g.T.Tree.meaning it.core.tree) it.core.journal it.last origin (g.H.Host.state c.args.host.now) begun (g.H.Host.state c.say_started.new.host) c.in-Err.end c.in-Err.ensures

@@ -18,21 +18,21 @@ returns-in-Ok-clause-stepped g c = λ command none body.
     let b = g.H.Host.state c.write_record.new.host in
     let op = c.op.result.now in
     let done : after ≡ effect op ns = c.apply.ensures.done ∙ ap (λ o. effect o ns) (sym c.op.ensures) in
-    stepped_as c.unless_failed.ensures (synced_step (Ok (Some (Change command))) core.journal c.write_record.new.journal core.count ns after core.time a b (g.H.Host.state c.say.new.host) (answer_text Done) c.say.result
+    stepped_as c.unless_failed.ensures (synced_step (Ok (Some (Change command))) core.version core.journal c.write_record.new.journal core.count ns after core.time a b (g.H.Host.state c.say.new.host) (answer_text Done) c.say.result
     (λ e. cc) (λ sight. change_taken ns command core.time after none (c.apply.ensures.done ∙ ap (λ o. effect o ns) body) core.count sight) c.requires.ready.listed
-    (λ tells ids stands. subst (λ x. Comes core.journal c.write_record.new.journal ns x a b) (sym done) (c.in-Ok.ensures.logs tells ns (subst (Fits ns) (sym c.op.ensures) c.requires.plan.fits) ids stands))
+    (λ tells ids stands. subst (λ x. Comes core.version core.journal c.write_record.new.journal ns x a b) (sym done) (c.in-Ok.ensures.logs tells core.version ns (subst (Fits ns) (sym c.op.ensures) c.requires.plan.fits) ids stands))
     c.in-Ok.ensures.went (ready_as c.requires.ready.listed c.in-Ok.ensures.ready)
-    (record { writes = inr (command, refl, none); adds = λ takes same small. c.in-Ok.ensures.adds same small; last = c.in-Ok.ensures.last; begins = λ roll. absurd (cc roll) })
-    (λ tells same small change. c.in-Ok.ensures.calls tells same small) c.in-Ok.ensures.some (omega arith, omega arith) c.say.ensures)
+    (record { writes = inr (command, refl, none); adds = λ takes same small. c.in-Ok.ensures.adds same small; last = omega (arith, c.in-Ok.ensures.last); begins = λ roll. absurd (cc roll) })
+    (λ tells same small change. c.in-Ok.ensures.calls tells same small) (λ tells ids stands saves. absurd (cc saves)) c.in-Ok.ensures.some (omega arith, omega arith) c.say.ensures)
 
 pub returns-in-Err-clause-stepped : goal.returns-in-Err-clause-stepped
 returns-in-Err-clause-stepped g c = λ command none body.
     let core = c.args.self.now in
     let ns = g.T.Tree.meaning core.tree in
     let op = c.op.result.now in
-    none_left_step (Ok (Some (Change command))) core.journal c.write_record.new.journal core.count ns (effect op ns) core.time (g.H.Host.state c.args.host.now) (g.H.Host.state c.write_record.new.host) (answer_text Done)
+    none_left_step (Ok (Some (Change command))) core.version core.journal c.write_record.new.journal core.count ns (effect op ns) core.time (g.H.Host.state c.args.host.now) (g.H.Host.state c.write_record.new.host) (answer_text Done)
     (λ e. cc) (λ sight. change_taken ns command core.time (effect op ns) none (ap (λ o. effect o ns) (c.op.ensures ∙ body)) core.count sight) c.requires.ready.listed
-    (λ tells ids stands. c.in-Err.ensures.logs tells ns (subst (Fits ns) (sym c.op.ensures) c.requires.plan.fits) ids stands)
-    c.in-Err.ensures.went (ready_as c.requires.ready.listed c.in-Err.ensures.ready)
-    (record { writes = inr (command, refl, none); adds = λ takes same small. c.in-Err.ensures.adds same small; last = c.in-Err.ensures.last; begins = λ roll. absurd (cc roll) })
+    (λ tells ids stands. let it = c.in-Err.ensures.logs tells core.version ns (subst (Fits ns) (sym c.op.ensures) c.requires.plan.fits) ids stands in (it.list, it.goes))
+    c.in-Err.ensures.went
+    (record { writes = inr (command, refl, none); adds = λ takes same small. c.in-Err.ensures.adds same small; last = omega (arith, c.in-Err.ensures.last); begins = λ roll. absurd (cc roll) })
     (λ tells same small change. c.in-Err.ensures.calls tells same small) c.in-Err.ensures.left

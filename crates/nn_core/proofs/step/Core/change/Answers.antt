@@ -13,7 +13,7 @@ pub returns-in-Err-spoken-clause-stepped : goal.returns-in-Err-spoken-clause-ste
 returns-in-Err-spoken-clause-stepped g c =
     let core = c.args.self.now in
     let command = c.args.command in
-    stepped_to c.prepare.ensures.kept (memory_step (Ok (Some (Change command))) core.journal core.count (g.T.Tree.meaning core.tree) core.time (g.H.Host.state c.args.host.now) (λ e. cc) (command, refl) c.requires.ready)
+    stepped_to c.prepare.ensures.kept (memory_step (Ok (Some (Change command))) core.version core.journal core.count (g.T.Tree.meaning core.tree) core.time (g.H.Host.state c.args.host.now) (λ e. cc) (command, refl) c.requires.ready)
 
 pub returns-in-Ok-spoken-clause-stepped : goal.returns-in-Ok-spoken-clause-stepped
 returns-in-Ok-spoken-clause-stepped g c =
@@ -21,7 +21,7 @@ returns-in-Ok-spoken-clause-stepped g c =
     let ns = g.T.Tree.meaning core.tree in
     let command = c.args.command in
     let answer = c.in-Ok-spoken.answer in
-    stepped_to c.prepare.ensures.kept (stepped_as c.unless_failed.ensures (plain_step (Ok (Some (Change command))) core.journal core.count ns core.time core.time (g.H.Host.state c.args.host.now) (g.H.Host.state c.say.new.host) (answer_text answer) c.say.result
+    stepped_to c.prepare.ensures.kept (stepped_as c.unless_failed.ensures (plain_step (Ok (Some (Change command))) core.version core.journal core.count ns core.time core.time (g.H.Host.state c.args.host.now) (g.H.Host.state c.say.new.host) (answer_text answer) c.say.result
     (λ e. cc)
     (λ sight live. change_refused ns command core.time c.in-Err.refusal (c.in-Err.ensures.err c.in-Ok-spoken.ensures.told) core.count sight ∙ ap (λ x. record { text = answer_text x; after = running ns core.time }) (sym c.in-Ok-spoken.ensures.is))
     c.requires.ready c.say.ensures (λ change. (some_answer answer, subst (λ x. length (answer_text x) ≤ most_said) (sym c.in-Ok-spoken.ensures.is) (refused_short c.in-Err.refusal)))
