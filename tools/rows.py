@@ -297,6 +297,31 @@ def a_roll_begins_a_new_segment(place):
 
 
 @row
+def three_checkpoints_leave_two_images_and_the_segments_behind_the_older(place):
+    place.formatted("A B")
+    place.says("run A B", "checkpoint\n" * 3, "started 0|ok|ok|ok|stopped")
+    for name in "AB":
+        place.holds(name, *images(4), *images(6), edits(5, 6), edits(7, 8))
+        place.has(f"{name}/current/seen_txid", b"7\n")
+
+
+@row
+def a_start_falls_back_on_the_image_before_a_damaged_one_and_needs_the_segments_between(place):
+    for gone, said, status in [(False, "started 8|stopped", 0), (True, "refused gap 7 4", 2)]:
+        for name in "AB":
+            shutil.rmtree(place.at(name), ignore_errors=True)
+        place.formatted("A B")
+        place.says("run A B", "checkpoint\n" * 3, "started 0|ok|ok|ok|stopped")
+        for name in "AB":
+            data = bytearray(reader.contents(place.at(name, "current", image(6))))
+            data[40] ^= 1
+            place.write(f"{name}/current/{image(6)}", bytes(data))
+            if gone:
+                os.remove(place.at(name, "current", edits(5, 6)))
+        place.says("run A B", "", said, status)
+
+
+@row
 def a_clock_that_is_given_stands_in_the_records(place):
     place.formatted("A")
     place.says("run --at 7 A", "mkdir /a\nclock 9\nmkdir /b\n", "started 0|ok|ok|ok|stopped")
