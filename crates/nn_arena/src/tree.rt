@@ -1,7 +1,11 @@
 // The linked tree.
-ghost use Rattle.std.specs.Prelude.{◌≡◌, true, vec_len};
+ghost use Rattle.std.specs.Prelude.{◌≡◌, ◌<◌, ◌≤◌, ◌^◌, true, length, take, vec_len, vec_capacity, OnOk};
 ghost use Rattle.nn_tree.specs.Limits.{IsKind, IsCounters};
 ghost use Rattle.nn_arena.specs.Totals.{AreTotals, own_usage};
+ghost use Rattle.nn_arena.specs.Places.{links_of};
+ghost use Rattle.nn_tree.specs.Links.{nodes_of, meaning_of, has_place, place_of};
+ghost use Rattle.nn_tree.specs.Walks.{IsWalk};
+ghost use Rattle.nn_tree.specs.Spots.{IsSound};
 ghost use Rattle.nn_tree.specs.Changes.{changed};
 ghost use Rattle.nn_tree.specs.Nodes.{space_of};
 
@@ -48,6 +52,45 @@ fn keeps_space(change: &Change) -> bool
     }
 }
 
+/// Makes an empty list take one block more than a file has. Most files have one block, and take no more memory than it
+/// needs.
+fn make_room(room: &mut Vec<Block>, count: usize) -> Result<(), NoMemory>
+    requires empty { vec_len room.old ≡ 0 }
+    requires few { count < 2 ^ 32 }
+    ensures enough { OnOk result (count < vec_capacity room.new) }
+    ensures empty { vec_len room.new ≡ 0 }
+{
+    if count == 0 {
+        room.reserve_exact(1)?;
+    } else {
+        room.reserve(count + 1)?;
+    }
+    Ok(())
+}
+
+impl ArenaTree {
+    // Walks along the first names of a path.
+    fn walk(&self, path: &Path, levels: usize) -> Walk
+        requires { levels ≤ length path.now }
+        ensures walk { IsWalk result (λ s. has_place (links_of self.now.arena.places.items) s.index) (λ s. place_of (links_of self.now.arena.places.items) s.index) (nodes_of (links_of self.now.arena.places.items)) (take levels path.now) }
+        ensures sound { IsSound (meaning_of (links_of self.now.arena.places.items) self.now.counters) (λ s. has_place (links_of self.now.arena.places.items) s.index) (λ s. place_of (links_of self.now.arena.places.items) s.index) }
+    {
+        let mut names = path.components();
+        let mut at = 0;
+        for _k in 0..levels {
+            if !self.arena.entry(at).node.kind.is_dir() {
+                return Walk::ThroughFile;
+            }
+            let name = names.take_name();
+            match gap::child(&self.arena.places, &self.arena.hints, at, name) {
+                None => return Walk::Missing,
+                Some(next) => at = next,
+            }
+        }
+        Walk::Found(Spot { index: at })
+    }
+}
+
 impl Tree for ArenaTree {
     ghost use Rattle.std.specs.Prelude.{vec_capacity, is_some};
     ghost use Rattle.nn_tree.specs.Links.{meaning_of, has_place, place_of};
@@ -76,22 +119,11 @@ impl Tree for ArenaTree {
     }
 
     fn find(&self, path: &Path) -> Walk {
-        let mut at = 0;
-        for k in 0..path.depth() {
-            if !self.arena.entry(at).node.kind.is_dir() {
-                return Walk::ThroughFile;
-            }
-            match gap::child(
-                &self.arena.places,
-                &self.arena.hints,
-                at,
-                path.name(k).bytes(),
-            ) {
-                None => return Walk::Missing,
-                Some(next) => at = next,
-            }
-        }
-        Walk::Found(Spot { index: at })
+        self.walk(path, path.depth())
+    }
+
+    fn find_above(&self, path: &Path) -> Walk {
+        self.walk(path, path.depth() - 1)
     }
 
     fn node(&self, at: Spot) -> &Node {
@@ -147,7 +179,7 @@ impl Tree for ArenaTree {
 
     fn reserve(&mut self, at: Spot) -> Result<(), NoMemory> {
         let count = self.arena.entry(at.index).node.kind.block_count();
-        self.room.reserve(count + 1)?;
+        make_room(&mut self.room, count)?;
         self.arena.grow()?;
         Ok(())
     }

@@ -7,5 +7,7 @@ pub mod NamesLemmas
 pub mod PaddedLemmas
 pub mod PathsLemmas
 pub mod PathTextLemmas
+pub mod PathHeldLemmas
+pub mod PathCountLemmas
 pub mod PathReadingLemmas
 pub mod PlainLemmas

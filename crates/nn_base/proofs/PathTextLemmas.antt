@@ -13,7 +13,7 @@ use Rattle.nn_base.specs.First.{when, first_of}
 use Rattle.nn_base.proofs.FirstLemmas.{none_first, first_behind, unsaid, untrue}
 use Rattle.nn_base.specs.PathText.{parts, parts_of, is_absolute, part_fault, fault_among, fault_of}
 
-abbrev split : Bytes → Names
+abbrev pub split : Bytes → Names
 split text = slice_split (λ b. b == 47) text
 
 abbrev pub IsNamed : Bytes → Type 0
@@ -24,7 +24,7 @@ IsWhole part = has_slash part ≡ false
 
 -- ---- names and parts
 
-name_is_whole : (x : Bytes) → IsNamed x → IsWhole x
+pub name_is_whole : (x : Bytes) → IsNamed x → IsWhole x
 name_is_whole x h = (or_parts (is_bad_name x || is_long_name x) (has_slash x) (not-true _ h)).1
 
 name_has_no_fault : (x : Bytes) → IsNamed x → part_fault x ≡ None
@@ -95,15 +95,21 @@ parts_are_whole (b ∷ text) = split_whole (b ∷ text)
 
 -- ---- a path and its text
 
+-- what names are written as reads back as the names
+pub parts_of-joined : (names : Names) → All IsNamed names → parts_of (joined names) ≡ names
+unfolding parts
+parts_of-joined [] h = refl
+parts_of-joined ([] ∷ rest) h = absurd (none (All-head IsNamed [] rest h))
+  where
+    none : IsNamed [] → ⊥
+    none e = cc
+parts_of-joined ((b ∷ x) ∷ rest) h = split-joined (b ∷ x) rest h
+
 -- what is written reads back as itself
 pub parts_of-text_of : (path : Names) → IsPath path → parts_of (text_of path) ≡ path
 unfolding parts
 parts_of-text_of [] h = refl
-parts_of-text_of ([] ∷ rest) h = absurd (none (All-head IsNamed [] rest h.named))
-  where
-    none : IsNamed [] → ⊥
-    none e = cc
-parts_of-text_of ((b ∷ x) ∷ rest) h = split-joined (b ∷ x) rest h.named
+parts_of-text_of (x ∷ rest) h = parts_of-joined (x ∷ rest) h.named
 
 -- no two paths have one text
 pub text_of_is_injective : (p q : Names) → IsPath p → IsPath q → text_of p ≡ text_of q → p ≡ q

@@ -1,6 +1,7 @@
 -- The front of a path is a path.
-use Rattle.std.proofs.Common.{◌≡◌, ◌≤◌, ◌<◌, ◌+◌, ℕ, zero, suc, Bool, true, false, not, ◌||◌, nat_lt, refl, [], ◌∷◌, ◌++◌, length, take, ap, sym, subst, ◌∙◌, arith, ◌*◌, length-append, get_or}
-use Rattle.std.specs.Prelude.{All}
+use Rattle.std.proofs.Common.{◌≡◌, ◌≤◌, ◌<◌, ◌+◌, ℕ, zero, suc, Bool, true, false, not, ◌||◌, nat_lt, refl, [], ◌∷◌, ◌++◌, length, take, drop, Some, ap, sym, subst, ◌∙◌, arith, ◌*◌, length-append, get_or}
+use Rattle.std.specs.Prelude.{All, slice_get}
+use Rattle.std.proofs.Math.ListN.{drop_of_length-le}
 use Rattle.std.proofs.lemmas.Bool.Decides.{nat_tests}
 use Rattle.std.proofs.lemmas.List.Elements.{All-take, All-push}
 use Rattle.std.proofs.lemmas.List.{take_more, take_all}
@@ -31,6 +32,19 @@ pub joined_push : (names : Names) (x : Bytes) → length (joined (names ++ x ∷
 joined_push [] x = omega (arith, length-append x [])
 joined_push (y ∷ names) x =
     omega (arith, joined_push names x, length-append y (joined (names ++ x ∷ [])), length-append y (joined names))
+
+-- the next name of a path that is walked along, also by those who look at its first names alone
+pub next_name : (path rest more : Names) (x : Bytes) (k levels : ℕ) → k < levels → rest ≡ drop k path → rest ≡ x ∷ more → (slice_get (take levels path) k ≡ Some x) × (more ≡ drop (k + 1) path)
+next_name path rest more x k levels within left is = at path k levels within (sym left ∙ is)
+  where
+    at : (path : Names) (k levels : ℕ) → k < levels → drop k path ≡ x ∷ more → (slice_get (take levels path) k ≡ Some x) × (more ≡ drop (k + 1) path)
+    at path k zero within e = absurd (omega arith)
+    at [] k (suc n) within e = absurd (omega (arith, ap length (sym (drop_of_length-le {A = Bytes} [] {i = k} (omega arith)) ∙ e)))
+    at (y ∷ path) zero (suc n) within e = (cc, cc)
+    at (y ∷ path) (suc k) (suc n) within e =
+        let one : suc k + 1 ≡ suc (k + 1) = omega arith in
+        let r = at path k n (omega arith) e in
+        (r.0, r.1 ∙ ap (λ m. drop m (y ∷ path)) (sym one))
 
 -- a name has at most 255 bytes
 pub name_is_short : (x : Bytes) → is_name x ≡ true → length x ≤ most_name

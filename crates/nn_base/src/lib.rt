@@ -18,6 +18,6 @@ pub use file_name::FileName;
 pub use ids::{DirNo, FirstTxid, NoMemory, OutOfMemory, Span, Txid};
 pub use label::Label;
 pub use name::Name;
-pub use path::{Path, PathFault};
+pub use path::{Components, Path, PathFault};
 pub use sub::Sub;
 pub use word::Word;

@@ -27,7 +27,7 @@ impl Model for Name {
 }
 
 /// Whether a component stands for the directory itself or for its parent.
-fn is_dots(part: &[u8]) -> bool
+pub(crate) fn is_dots(part: &[u8]) -> bool
     ensures { result ≡ paths.is_dots part.now }
 {
     match part {
@@ -45,7 +45,7 @@ fn has_barred(part: &[u8]) -> bool
 }
 
 /// Whether a component is empty, stands for another directory or has a byte that no name has.
-pub(crate) fn is_bad_name(part: &[u8]) -> bool
+fn is_bad_name(part: &[u8]) -> bool
     ensures { result ≡ paths.is_bad_name part.now }
 {
     part.is_empty() || is_dots(part) || has_barred(part)
@@ -74,6 +74,15 @@ impl Name {
         }
         let bytes = bytes.to_vec(alloc)?;
         Ok(Some(Name { bytes }))
+    }
+
+    /// The name of bytes that are one.
+    pub(crate) fn held(alloc: Global, bytes: &[u8]) -> Result<Name, NoMemory>
+        requires { paths.is_name bytes.now ≡ true }
+        ensures { IfOk result (λ name. name ≡ bytes.now) }
+    {
+        let bytes = bytes.to_vec(alloc)?;
+        Ok(Name { bytes })
     }
 
     /// The same name in memory of its own.

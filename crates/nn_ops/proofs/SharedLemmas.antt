@@ -1,12 +1,10 @@
 -- The names that two paths have in common, and which prefixes they share.
-use Rattle.std.proofs.Common.{◌≡◌, ◌≢◌, ℕ, zero, suc, ◌+◌, ◌<◌, ◌≤◌, Bool, true, false, not, cond, [], ◌∷◌, ◌++◌, ◌&&◌, take, drop, length, nat_eq, refl, sym, ap, ◌∙◌, arith, append-nil, Some, ◌⊎◌, inl, inr, length-drop}
+use Rattle.std.proofs.Common.{◌≡◌, ◌≢◌, ℕ, zero, suc, ◌+◌, ◌<◌, ◌≤◌, Bool, true, false, not, cond, [], ◌∷◌, ◌++◌, ◌&&◌, take, drop, length, nat_eq, refl, sym, ap, ◌∙◌, arith, append-nil, ◌⊎◌, inl, inr, length-drop}
 use Rattle.std.proofs.Math.Seq.{take-length}
 use Rattle.std.proofs.lemmas.Bool.{ltb-true, ltb-false}
 use Rattle.std.proofs.lemmas.Bool.Decides.{leb_tells}
 use Rattle.std.specs.Prelude.{nat_lt}
-use Rattle.std.specs.Prelude.{slice_get}
 use Rattle.std.proofs.lemmas.List.{drop_more}
-use Rattle.std.proofs.lemmas.Option.{slice_get_within, get_or_from_slice_get}
 use Rattle.std.specs.Cmp.Lexicographic.{pointwise, bytes_decides}
 use Rattle.nn_base.specs.Paths.{Names, Bytes, is_under}
 use Rattle.nn_tree.proofs.PrefixLemmas.{not_under_longer, under_split}
@@ -47,20 +45,27 @@ unshared_prefix (x ∷ p) (y ∷ q) (suc n) h le = elim (pointwise nat_eq x y) a
 
 -- ---- name by name
 
-step_at : (p q : Names) (k : ℕ) (x y : Bytes) → slice_get p k ≡ Some x → slice_get q k ≡ Some y → shared (drop k p) (drop k q) ≡ cond (pointwise nat_eq x y) (1 + shared (drop (k + 1) p) (drop (k + 1) q)) 0
-step_at p q k x y a b = λ i. shared (next p x a i) (next q y b i)
-  where
-    next : (p : Names) (x : Bytes) → slice_get p k ≡ Some x → drop k p ≡ x ∷ drop (k + 1) p
-    next p x is = drop_more p k x (slice_get_within p k x is) ∙ ap (λ z. z ∷ drop (k + 1) p) (get_or_from_slice_get p k x x is)
+-- what stands behind the first of those that are left
+pub drop_next : (p : Names) (k : ℕ) (x : Bytes) (rest : Names) → drop k p ≡ x ∷ rest → drop (k + 1) p ≡ rest
+drop_next p k x rest h =
+    let l = length-drop k p in
+    let n = ap length h in
+    ap (drop 1) (sym (drop_more p k x (omega arith)) ∙ h)
 
-pub shared_more : (p q : Names) (k : ℕ) (x y : Bytes) → slice_get p k ≡ Some x → slice_get q k ≡ Some y → pointwise nat_eq x y ≡ true → shared p q ≡ k + shared (drop k p) (drop k q) → shared p q ≡ k + 1 + shared (drop (k + 1) p) (drop (k + 1) q)
-shared_more p q k x y a b same h =
-    let s = step_at p q k x y a b ∙ ap (λ b. cond b (1 + shared (drop (k + 1) p) (drop (k + 1) q)) 0) same in
+step_at : (p q : Names) (k : ℕ) (x y : Bytes) (xs ys : Names) → drop k p ≡ x ∷ xs → drop k q ≡ y ∷ ys → shared (drop k p) (drop k q) ≡ cond (pointwise nat_eq x y) (1 + shared (drop (k + 1) p) (drop (k + 1) q)) 0
+step_at p q k x y xs ys a b = λ i. shared (next p x xs a i) (next q y ys b i)
+  where
+    next : (p : Names) (x : Bytes) (xs : Names) → drop k p ≡ x ∷ xs → drop k p ≡ x ∷ drop (k + 1) p
+    next p x xs is = is ∙ ap (λ z. x ∷ z) (sym (drop_next p k x xs is))
+
+pub shared_more : (p q : Names) (k : ℕ) (x y : Bytes) (xs ys : Names) → drop k p ≡ x ∷ xs → drop k q ≡ y ∷ ys → pointwise nat_eq x y ≡ true → shared p q ≡ k + shared (drop k p) (drop k q) → shared p q ≡ k + 1 + shared (drop (k + 1) p) (drop (k + 1) q)
+shared_more p q k x y xs ys a b same h =
+    let s = step_at p q k x y xs ys a b ∙ ap (λ b. cond b (1 + shared (drop (k + 1) p) (drop (k + 1) q)) 0) same in
     omega arith
 
-pub shared_ends : (p q : Names) (k : ℕ) (x y : Bytes) → slice_get p k ≡ Some x → slice_get q k ≡ Some y → pointwise nat_eq x y ≡ false → shared p q ≡ k + shared (drop k p) (drop k q) → k ≡ shared p q
-shared_ends p q k x y a b other h =
-    let s = step_at p q k x y a b ∙ ap (λ b. cond b (1 + shared (drop (k + 1) p) (drop (k + 1) q)) 0) other in
+pub shared_ends : (p q : Names) (k : ℕ) (x y : Bytes) (xs ys : Names) → drop k p ≡ x ∷ xs → drop k q ≡ y ∷ ys → pointwise nat_eq x y ≡ false → shared p q ≡ k + shared (drop k p) (drop k q) → k ≡ shared p q
+shared_ends p q k x y xs ys a b other h =
+    let s = step_at p q k x y xs ys a b ∙ ap (λ b. cond b (1 + shared (drop (k + 1) p) (drop (k + 1) q)) 0) other in
     omega arith
 
 pub shared_all : (p q : Names) (k : ℕ) → (length p ≤ k) ⊎ (length q ≤ k) → shared p q ≡ k + shared (drop k p) (drop k q) → k ≡ shared p q

@@ -5,7 +5,6 @@
 mod answers;
 mod attributes;
 mod command;
-mod copies;
 mod delete;
 mod effects;
 mod file;

@@ -10,7 +10,6 @@ ghost use Rattle.nn_tree.specs.declared.node.Kind.{Kind};
 ghost use Rattle.nn_ops.specs.declared.command.Command.{Command};
 
 use crate::OpRefusal;
-use crate::copies::last_name;
 use crate::places::free_place;
 use crate::plan::{Plan, Target};
 use crate::room::{is_bad_replication, room_for_node};
@@ -45,9 +44,9 @@ pub(crate) fn prepare_mkdir<T: Tree>(
     ensures has { T.has tree.new ≡ T.has tree.old }
     ensures place { T.place tree.new ≡ T.place tree.old }
 {
-    let parent = free_place(alloc, tree, &path)?;
+    let parent = free_place(tree, &path)?;
     room_for_node(alloc, tree, parent)?;
-    let name = last_name(alloc, &path)?;
+    let name = path.last_name(alloc)?;
     let owner = hdfs();
     let group = tree.node(parent).group;
     let inode = tree.counters().inode + 1;
@@ -115,13 +114,13 @@ pub(crate) fn prepare_create<T: Tree>(
     ensures has { T.has tree.new ≡ T.has tree.old }
     ensures place { T.place tree.new ≡ T.place tree.old }
 {
-    let parent = free_place(alloc, tree, &path)?;
+    let parent = free_place(tree, &path)?;
     if is_bad_replication(replication) {
         return Err(OpRefusal::Limit);
     }
     room_for_node(alloc, tree, parent)?;
     let replication = replication as u16;
-    let name = last_name(alloc, &path)?;
+    let name = path.last_name(alloc)?;
     let owner = hdfs();
     let group = tree.node(parent).group;
     let inode = tree.counters().inode + 1;

@@ -9,36 +9,34 @@ ghost use Rattle.nn_base.specs.First.{first_of};
 use crate::OpRefusal;
 use nn_base::Path;
 use nn_tree::{Kind, Spot, Tree, Walk};
-use std::alloc::Global;
 
 /// The directory above a path at which nothing stands.
-pub(crate) fn free_place<T: Tree>(alloc: Global, tree: &T, path: &Path) -> Result<Spot, OpRefusal>
+pub(crate) fn free_place<T: Tree>(tree: &T, path: &Path) -> Result<Spot, OpRefusal>
     ensures there { IfOk result (λ spot. T.has tree.now spot ≡ true) }
     ensures above { IfOk result (λ spot. T.place tree.now spot ≡ parent_of path.now) }
     ensures below_root { OnOk result (0 < length path.now) }
     ensures ok { OnOk result (first_of (free_tests (T.meaning tree.now).nodes path.now) ≡ None) }
-    ensures err { IfErr result (λ r. r ≢ OpRefusal.Memory → first_of (free_tests (T.meaning tree.now).nodes path.now) ≡ Some r) }
+    ensures err { IfErr result (λ r. first_of (free_tests (T.meaning tree.now).nodes path.now) ≡ Some r) }
 {
     match tree.find(path) {
         Walk::Found(_) => Err(OpRefusal::Exists),
         Walk::ThroughFile => Err(OpRefusal::NotDir),
-        Walk::Missing => directory_above(alloc, tree, path),
+        Walk::Missing => directory_above(tree, path),
     }
 }
 
 /// The directory above a path at which nothing stands, with no file in the way.
-fn directory_above<T: Tree>(alloc: Global, tree: &T, path: &Path) -> Result<Spot, OpRefusal>
+fn directory_above<T: Tree>(tree: &T, path: &Path) -> Result<Spot, OpRefusal>
     requires free { map.get (T.meaning tree.now).nodes path.now ≡ None }
     requires no_file { obstacle (T.meaning tree.now).nodes path.now ≢ Some AFile }
     ensures there { IfOk result (λ spot. T.has tree.now spot ≡ true) }
     ensures above { IfOk result (λ spot. T.place tree.now spot ≡ parent_of path.now) }
     ensures below_root { OnOk result (0 < length path.now) }
     ensures ok { OnOk result (first_of (free_tests (T.meaning tree.now).nodes path.now) ≡ None) }
-    ensures err { IfErr result (λ r. r ≢ OpRefusal.Memory → first_of (free_tests (T.meaning tree.now).nodes path.now) ≡ Some r) }
+    ensures err { IfErr result (λ r. first_of (free_tests (T.meaning tree.now).nodes path.now) ≡ Some r) }
 {
     let _counters = tree.counters();
-    let above = path.parent(alloc)?;
-    match tree.find(&above) {
+    match tree.find_above(path) {
         Walk::Found(spot) => Ok(spot),
         Walk::Missing => Err(OpRefusal::NotFound),
         Walk::ThroughFile => unreachable!(),

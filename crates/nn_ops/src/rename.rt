@@ -13,7 +13,6 @@ ghost use Rattle.nn_ops.specs.Step.{refusal_of};
 ghost use Rattle.nn_ops.specs.declared.command.Command.{Command};
 
 use crate::OpRefusal;
-use crate::copies::last_name;
 use crate::places::{free_place, is_root, node_at};
 use crate::plan::{Plan, Target};
 use crate::room::fits_at;
@@ -28,8 +27,10 @@ fn shared(a: &Path, b: &Path) -> usize
     ensures { result ≡ shared a.now b.now }
 {
     let most = a.depth().min(b.depth());
+    let mut ours = a.components();
+    let mut theirs = b.components();
     for k in 0..most {
-        if a.name(k).bytes() != b.name(k).bytes() {
+        if ours.take_name() != theirs.take_name() {
             return k;
         }
     }
@@ -65,11 +66,10 @@ fn text_size(path: &Path) -> usize
     ensures size { result ≡ length (joined path.now) }
     ensures few { result ≤ most_path }
 {
-    let mut size = 0;
-    for k in 0..path.depth() {
-        size += 1 + path.name(k).bytes().len();
+    if path.depth() == 0 {
+        return 0;
     }
-    size
+    path.bytes().len()
 }
 
 /// Whether all below a node get paths that are short enough, where its own new path has so many levels and bytes.
@@ -146,7 +146,7 @@ pub(crate) fn prepare_rename<T: Tree>(
     ensures err { IfErr result (λ r. r ≢ OpRefusal.Memory → refusal_of (T.meaning tree.now) (Command.Rename from to) ≡ Some r) }
 {
     let at = moved_node(tree, &from, &to)?;
-    let parent = free_place(alloc, tree, &to)?;
+    let parent = free_place(tree, &to)?;
     if !moves_short(tree, at, &to) {
         return Err(OpRefusal::Limit);
     }
@@ -155,7 +155,7 @@ pub(crate) fn prepare_rename<T: Tree>(
     }
     // That the path is one is told by its depth.
     let _depth = to.depth();
-    let name = last_name(alloc, &to)?;
+    let name = to.last_name(alloc)?;
     Ok(Plan {
         op: Op::RenameOld {
             from,

@@ -8,7 +8,6 @@ ghost use Rattle.nn_ops.specs.Effects.{effect};
 ghost use Rattle.nn_ops.specs.Replays.{assigned_by, none_assigned};
 ghost use Rattle.nn_ops.specs.Step.{Fits};
 
-use crate::copies::copy_path;
 use crate::{Command, OpRefusal, apply, prepare};
 use nn_base::{Label, NoMemory, OutOfMemory};
 use nn_record::Op;
@@ -146,41 +145,41 @@ fn command_in(alloc: Global, op: &Op) -> Result<Option<Command>, NoMemory>
             replication,
             ..
         } => Command::Create {
-            path: copy_path(alloc, path)?,
+            path: path.copy(alloc)?,
             replication: u64::from(*replication),
         },
         Op::RenameOld { from, to, .. } => Command::Rename {
-            from: copy_path(alloc, from)?,
-            to: copy_path(alloc, to)?,
+            from: from.copy(alloc)?,
+            to: to.copy(alloc)?,
         },
         Op::Delete { path, .. } => Command::Delete {
-            path: copy_path(alloc, path)?,
+            path: path.copy(alloc)?,
         },
         Op::Mkdir { path, .. } => Command::Mkdir {
-            path: copy_path(alloc, path)?,
+            path: path.copy(alloc)?,
         },
         Op::SetReplication { path, replication } => Command::Setrep {
-            path: copy_path(alloc, path)?,
+            path: path.copy(alloc)?,
             replication: u64::from(*replication),
         },
         Op::SetPermissions { path, mode } => Command::Chmod {
-            path: copy_path(alloc, path)?,
+            path: path.copy(alloc)?,
             mode: *mode,
         },
         Op::SetOwner { path, owner, group } => Command::Chown {
-            path: copy_path(alloc, path)?,
+            path: path.copy(alloc)?,
             owner: *owner,
             group: *group,
         },
         Op::Close { path, .. } => Command::Close {
-            path: copy_path(alloc, path)?,
+            path: path.copy(alloc)?,
         },
         Op::SetQuota { path, quota } => Command::SetQuota {
-            path: copy_path(alloc, path)?,
+            path: path.copy(alloc)?,
             quota: *quota,
         },
         Op::AddBlock { path, length, .. } => Command::AddBlock {
-            path: copy_path(alloc, path)?,
+            path: path.copy(alloc)?,
             length: *length,
         },
         Op::EndLogSegment => return Ok(None),

@@ -1,5 +1,5 @@
 -- The one spelling of each record: opcode, length, transaction id, body and checksum, all numbers big-endian.
-use Rattle.std.specs.Prelude.{◌≡◌, ℕ, ◌+◌, ◌-◌, ◌^◌, ◌<◌, ◌≤◌, List, [], ◌∷◌, ◌++◌, length, Option, Some, None}
+use Rattle.std.specs.Prelude.{◌≡◌, ℕ, ◌+◌, ◌-◌, ◌^◌, ◌≤◌, List, [], ◌∷◌, ◌++◌, length, Option, Some, None}
 use Rattle.std.specs.Int.{w16, w32, w64, to_be_bytes}
 use Rattle.nn_base.specs.Limits.{most_record, IsLong}
 use Rattle.nn_base.specs.Paths.{Names, text_of}

@@ -12,6 +12,7 @@ use crate::opcodes::{
 use crate::writing::{overwrite, put, put_bound, put_name, put_path, put_u16, put_u32, put_u64};
 use nn_base::Txid;
 use nn_wire::crc32;
+use std::mem;
 
 fn opcode_of(op: &Op) -> u8
     ensures { result ≡ opcode_of op.now }
@@ -41,12 +42,30 @@ pub(crate) fn put_record(id: Txid, op: &Op, out: &mut Vec<u8>)
     ensures record { IsRecord (record { id = id; op = op.now }) }
     ensures capacity { vec_capacity out.old ≤ vec_capacity out.new }
 {
-    let start = out.len();
-    put_unsealed(id, op, out);
-    let sum = crc32(&out[start..]);
-    put_u32(sum, out);
+    // The bytes are taken out as a value, so that their length needn't be written after each field.
+    let none = Vec::new(*out.allocator());
+    let bytes = mem::replace(out, none);
+    *out = with_record(id, op, bytes);
 }
 
+#[inline(always)]
+fn with_record(id: Txid, op: &Op, bytes: Vec<u8>) -> Vec<u8>
+    requires id { 1 ≤ id }
+    requires op { IsOp op.now }
+    requires room { vec_len bytes + most_record ≤ vec_capacity bytes }
+    ensures text { result.items ≡ bytes.items ++ spelling (record { id = id; op = op.now }) }
+    ensures record { IsRecord (record { id = id; op = op.now }) }
+    ensures capacity { vec_capacity bytes ≤ vec_capacity result }
+{
+    let mut out = bytes;
+    let start = out.len();
+    put_unsealed(id, op, &mut out);
+    let sum = crc32(&out[start..]);
+    put_u32(sum, &mut out);
+    out
+}
+
+#[inline(always)]
 fn put_unsealed(id: Txid, op: &Op, out: &mut Vec<u8>)
     requires op { IsOp op.now }
     requires room { vec_len out.old + (2 * most_path + 1013) ≤ vec_capacity out.old }
@@ -66,6 +85,7 @@ fn put_unsealed(id: Txid, op: &Op, out: &mut Vec<u8>)
     overwrite(&len.to_be_bytes(), start + 1, out);
 }
 
+#[inline(always)]
 #[tactic(auto, unfolding(crate::specs::Spelling::body_bytes))]
 fn put_body(op: &Op, out: &mut Vec<u8>)
     requires op { IsOp op.now }

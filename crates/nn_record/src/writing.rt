@@ -7,14 +7,19 @@ ghost use Rattle.nn_record.specs.Ops.{IsOp, IsHeld};
 ghost use Rattle.nn_record.specs.Spelling as spelling;
 
 use crate::Op;
-use nn_base::{Label, Name, Path};
+use nn_base::{Label, Path};
 
+#[inline(always)]
 pub(crate) fn put(bytes: &[u8], out: &mut Vec<u8>)
     requires room { vec_len out.old + length bytes.now ≤ vec_capacity out.old }
     ensures items { out.new.items ≡ out.old.items ++ bytes.now }
     ensures len { vec_len out.new ≡ vec_len out.old + length bytes.now }
     ensures capacity { vec_capacity out.old ≤ vec_capacity out.new }
 {
+    // There is room, and asking here spares the call that would make some.
+    if out.capacity() - out.len() < bytes.len() {
+        return;
+    }
     if out.extend_from_slice(bytes).is_err() {
         unreachable!()
     }
@@ -31,6 +36,7 @@ pub(crate) fn overwrite(bytes: &[u8], at: usize, out: &mut Vec<u8>)
 }
 
 #[tactic(auto, unfolding(crate::specs::Spelling::u16))]
+#[inline(always)]
 pub(crate) fn put_u16(number: u16, out: &mut Vec<u8>)
     requires room { vec_len out.old + 2 ≤ vec_capacity out.old }
     ensures items { out.new.items ≡ out.old.items ++ spelling.u16 number }
@@ -41,6 +47,7 @@ pub(crate) fn put_u16(number: u16, out: &mut Vec<u8>)
 }
 
 #[tactic(auto, unfolding(crate::specs::Spelling::u32))]
+#[inline(always)]
 pub(crate) fn put_u32(number: u32, out: &mut Vec<u8>)
     requires room { vec_len out.old + 4 ≤ vec_capacity out.old }
     ensures items { out.new.items ≡ out.old.items ++ spelling.u32 number }
@@ -51,6 +58,7 @@ pub(crate) fn put_u32(number: u32, out: &mut Vec<u8>)
 }
 
 #[tactic(auto, unfolding(crate::specs::Spelling::u64))]
+#[inline(always)]
 pub(crate) fn put_u64(number: u64, out: &mut Vec<u8>)
     requires room { vec_len out.old + 8 ≤ vec_capacity out.old }
     ensures items { out.new.items ≡ out.old.items ++ spelling.u64 number }
@@ -61,6 +69,7 @@ pub(crate) fn put_u64(number: u64, out: &mut Vec<u8>)
 }
 
 #[tactic(auto, unfolding(crate::specs::Spelling::bound))]
+#[inline(always)]
 pub(crate) fn put_bound(most: Option<u64>, out: &mut Vec<u8>)
     requires room { vec_len out.old + 8 ≤ vec_capacity out.old }
     ensures items { out.new.items ≡ out.old.items ++ spelling.bound most }
@@ -71,6 +80,7 @@ pub(crate) fn put_bound(most: Option<u64>, out: &mut Vec<u8>)
 }
 
 #[tactic(auto, unfolding(crate::specs::Spelling::name))]
+#[inline(always)]
 pub(crate) fn put_name(label: &Label, out: &mut Vec<u8>)
     requires room { vec_len out.old + 33 ≤ vec_capacity out.old }
     ensures items { out.new.items ≡ out.old.items ++ spelling.name label.now }
@@ -83,36 +93,8 @@ pub(crate) fn put_name(label: &Label, out: &mut Vec<u8>)
     put(text, out);
 }
 
-// A `/` before each name, and `/` alone for the root.
-#[tactic(auto, using(crate::proofs::PathLemmas::text_small, crate::proofs::PathLemmas::text_joined, crate::proofs::PathLemmas::joined_at, crate::proofs::PathLemmas::length_joined_at))]
-fn put_text(path: &Path, out: &mut Vec<u8>)
-    requires room { vec_len out.old + most_path ≤ vec_capacity out.old }
-    ensures path { IsPath path.now }
-    ensures items { out.new.items ≡ out.old.items ++ text_of path.now }
-    ensures len { vec_len out.new ≡ vec_len out.old + length (text_of path.now) }
-    ensures capacity { vec_capacity out.old ≤ vec_capacity out.new }
-{
-    let depth = path.depth();
-    if depth == 0 {
-        put(b"/", out);
-        return;
-    }
-    for level in 0..depth {
-        put_part(path.name(level), out);
-    }
-}
-
-fn put_part(name: &Name, out: &mut Vec<u8>)
-    requires room { vec_len out.old + (1 + length name.now) ≤ vec_capacity out.old }
-    ensures items { out.new.items ≡ out.old.items ++ (47 ∷ name.now) }
-    ensures len { vec_len out.new ≡ vec_len out.old + (1 + length name.now) }
-    ensures capacity { vec_capacity out.old ≤ vec_capacity out.new }
-{
-    put(b"/", out);
-    put(name.bytes(), out);
-}
-
-#[tactic(auto, unfolding(crate::specs::Spelling::path, crate::specs::Spelling::u16))]
+#[tactic(auto, using(crate::proofs::PathLemmas::text_small), unfolding(crate::specs::Spelling::path))]
+#[inline(always)]
 pub(crate) fn put_path(path: &Path, out: &mut Vec<u8>)
     requires room { vec_len out.old + (most_path + 2) ≤ vec_capacity out.old }
     ensures path { IsPath path.now }
@@ -120,10 +102,7 @@ pub(crate) fn put_path(path: &Path, out: &mut Vec<u8>)
     ensures len { vec_len out.new ≤ vec_len out.old + (most_path + 2) }
     ensures capacity { vec_capacity out.old ≤ vec_capacity out.new }
 {
-    let start = out.len();
-    put_u16(0, out);
-    put_text(path, out);
-    // The length is known once the text stands.
-    let len = (out.len() - start - 2) as u16;
-    overwrite(&len.to_be_bytes(), start, out);
+    let text = path.bytes();
+    put_u16(text.len() as u16, out);
+    put(text, out);
 }

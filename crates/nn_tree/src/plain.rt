@@ -1,7 +1,9 @@
 // The plain tree: one vector of entries, and each question a scan.
-ghost use Rattle.std.specs.Prelude.{◌≡◌, vec_len};
+ghost use Rattle.std.specs.Prelude.{◌≡◌, ◌≤◌, length, take, vec_len};
 ghost use Rattle.nn_tree.specs.Limits.{IsWithinLimits, IsCounters};
-ghost use Rattle.nn_tree.specs.Links.{IsTree, nodes_of};
+ghost use Rattle.nn_tree.specs.Links.{IsTree, nodes_of, meaning_of, has_place, place_of};
+ghost use Rattle.nn_tree.specs.Walks.{IsWalk};
+ghost use Rattle.nn_tree.specs.Spots.{IsSound};
 ghost use Rattle.nn_tree.specs.Plain.{links_of};
 
 use crate::entry::{self, Entry};
@@ -20,6 +22,28 @@ pub struct PlainTree {
     ghost limits: { IsWithinLimits (nodes_of (links_of entries.items)) },
     ghost in_range: { IsCounters counters },
     ghost empty: { vec_len room ≡ 0 },
+}
+
+impl PlainTree {
+    // Walks along the first names of a path.
+    fn walk(&self, path: &Path, levels: usize) -> Walk
+        requires { levels ≤ length path.now }
+        ensures walk { IsWalk result (λ s. has_place (links_of self.now.entries.items) s.index) (λ s. place_of (links_of self.now.entries.items) s.index) (nodes_of (links_of self.now.entries.items)) (take levels path.now) }
+        ensures sound { IsSound (meaning_of (links_of self.now.entries.items) self.now.counters) (λ s. has_place (links_of self.now.entries.items) s.index) (λ s. place_of (links_of self.now.entries.items) s.index) }
+    {
+        let mut names = path.components();
+        let mut at = 0;
+        for _k in 0..levels {
+            if !self.entries[at].node.kind.is_dir() {
+                return Walk::ThroughFile;
+            }
+            match entry::child(&self.entries, at, names.take_name()) {
+                None => return Walk::Missing,
+                Some(next) => at = next,
+            }
+        }
+        Walk::Found(Spot { index: at })
+    }
 }
 
 impl Tree for PlainTree {
@@ -51,17 +75,11 @@ impl Tree for PlainTree {
     }
 
     fn find(&self, path: &Path) -> Walk {
-        let mut at = 0;
-        for k in 0..path.depth() {
-            if !self.entries[at].node.kind.is_dir() {
-                return Walk::ThroughFile;
-            }
-            match entry::child(&self.entries, at, path.name(k).bytes()) {
-                None => return Walk::Missing,
-                Some(next) => at = next,
-            }
-        }
-        Walk::Found(Spot { index: at })
+        self.walk(path, path.depth())
+    }
+
+    fn find_above(&self, path: &Path) -> Walk {
+        self.walk(path, path.depth() - 1)
     }
 
     fn node(&self, at: Spot) -> &Node {

@@ -1,5 +1,5 @@
 // What a tree is.
-ghost use Rattle.std.specs.Prelude.{◌≡◌, ◌≢◌, ◌∷◌, ◌++◌, [], Some, None, true, false, IfOk, OnOk, Bool};
+ghost use Rattle.std.specs.Prelude.{◌≡◌, ◌≢◌, ◌<◌, ◌-◌, ◌∷◌, ◌++◌, [], length, take, Some, None, true, false, IfOk, OnOk, Bool};
 ghost use Rattle.std.specs.FinMap as map;
 ghost use Rattle.nn_base.specs.Paths.{Names, is_under};
 ghost use Rattle.nn_tree.specs.declared.spot.Spot.{Spot};
@@ -41,6 +41,12 @@ pub trait Tree: Sized + Drop {
         ensures walk { IsWalk result (has self.now) (place self.now)
             (meaning self.now).nodes path.now }
         ensures sound { IsSound (meaning self.now) (has self.now) (place self.now) };
+
+    /// Walks along a path other than the root's, up to the directory above.
+    fn find_above(&self, path: &Path) -> Walk
+        requires { 0 < length path.now }
+        ensures { IsWalk result (has self.now) (place self.now)
+            (meaning self.now).nodes (take (length path.now - 1) path.now) };
 
     fn node(&self, at: Spot) -> &Node
         requires { has self.now at ≡ true }

@@ -1,5 +1,5 @@
 -- The register's step is linear over exclusive-or, so a byte may go by a table: what its eight bits come to was divided before.
-use Rattle.std.proofs.Common.{List, [], ◌∷◌, fold, length, drop, get_or, length-drop, ◌≡◌, ℕ, zero, suc, ◌+◌, ◌*◌, ◌/◌, ◌%◌, ◌^◌, ◌<◌, refl, sym, ap, ◌∙◌, arith, bit_xor}
+use Rattle.std.proofs.Common.{List, [], ◌∷◌, fold, length, drop, get_or, length-drop, ◌≡◌, ℕ, zero, suc, ◌+◌, ◌*◌, ◌/◌, ◌%◌, ◌^◌, ◌<◌, ◌≤◌, refl, sym, ap, ◌∙◌, arith, bit_xor}
 use Rattle.std.specs.Int.Bits.{xor_self, xor_assoc, xor_zero_r, xor_shifted}
 use Rattle.std.proofs.Math.Nat.{pow-suc, zero-add, suc-add, mul-one, mul_assoc}
 use Rattle.std.proofs.lemmas.Nat.{xor_comm, xor_shr, xor_mod}
@@ -112,3 +112,46 @@ xor_around d f = ap (λ x. bit_xor x d) (xor_comm d f) ∙ xor_assoc f d d ∙ a
 
 pub xor_twice : (a d : ℕ) → bit_xor (bit_xor a d) d ≡ a
 xor_twice a d = xor_assoc a d d ∙ ap (bit_xor a) (xor_self d) ∙ xor_zero_r a
+
+-- ---- several bytes at once
+
+-- A byte that met the register together with others: they meet it when it has moved on.
+met_one : (r a y : ℕ) (bs : List ℕ) → a < 256 → fold with_byte (bit_xor r (a + 256 * y)) (0 ∷ bs) ≡ fold with_byte (bit_xor (with_byte r a) y) bs
+unfolding with_byte
+met_one r a y bs small =
+    let parts : a + 256 * y ≡ bit_xor (y * 2 ^ 8) a = omega (arith, xor_shifted y 8 a (omega arith)) in
+    let apart : bit_xor r (a + 256 * y) ≡ bit_xor (y * 2 ^ 8) (bit_xor r a) = ap (bit_xor r) parts ∙ xor_swap r (y * 2 ^ 8) a in
+    let one : with_byte (bit_xor r (a + 256 * y)) 0 ≡ bit_xor (with_byte r a) y =
+    ap (next_bits 8) (xor_zero_r (bit_xor r (a + 256 * y)) ∙ apart) ∙ next_bits-xor 8 (y * 2 ^ 8) (bit_xor r a)
+    ∙ ap (λ x. bit_xor x (next_bits 8 (bit_xor r a))) (next_bits-zeros 8 y) ∙ xor_comm y (next_bits 8 (bit_xor r a)) in
+    ap (λ x. fold with_byte x bs) one
+
+pub met_four : (r a b c d : ℕ) (bs : List ℕ) → a < 256 → b < 256 → c < 256 → d < 256
+    → fold with_byte (bit_xor r (a + 256 * (b + 256 * (c + 256 * d)))) (0 ∷ 0 ∷ 0 ∷ 0 ∷ bs) ≡ fold with_byte r (a ∷ b ∷ c ∷ d ∷ bs)
+met_four r a b c d bs la lb lc ld =
+    let ra = with_byte r a in
+    let rb = with_byte ra b in
+    let rc = with_byte rb c in
+    let last : d ≡ d + 256 * 0 = omega arith in
+    met_one r a (b + 256 * (c + 256 * d)) (0 ∷ 0 ∷ 0 ∷ bs) la
+    ∙ met_one ra b (c + 256 * d) (0 ∷ 0 ∷ bs) lb
+    ∙ met_one rb c d (0 ∷ bs) lc
+    ∙ ap (λ x. fold with_byte (bit_xor rc x) (0 ∷ bs)) last
+    ∙ met_one rc d 0 bs ld
+    ∙ ap (λ x. fold with_byte x bs) (xor_zero_r (with_byte rc d))
+
+-- the first four of several
+pub front_four : (bs : List ℕ) → 4 ≤ length bs → get_or bs 0 0 ∷ get_or bs 1 0 ∷ get_or bs 2 0 ∷ get_or bs 3 0 ∷ drop 4 bs ≡ bs
+front_four (a ∷ b ∷ c ∷ d ∷ bs) long = refl
+front_four [] long = absurd (omega (arith, long))
+front_four (a ∷ []) long = absurd (omega (arith, long))
+front_four (a ∷ b ∷ []) long = absurd (omega (arith, long))
+front_four (a ∷ b ∷ c ∷ []) long = absurd (omega (arith, long))
+
+-- a zero in the place of one of the first four
+pub zero_at : (p : ℕ) (bs : List ℕ) → p < 4 → 0 ≡ get_or (0 ∷ 0 ∷ 0 ∷ 0 ∷ bs) p 0
+zero_at zero bs few = refl
+zero_at (suc zero) bs few = refl
+zero_at (suc (suc zero)) bs few = refl
+zero_at (suc (suc (suc zero))) bs few = refl
+zero_at (suc (suc (suc (suc p)))) bs few = absurd (omega (arith, few))

@@ -1,5 +1,5 @@
 // CRC-32 by sixteen bytes at a time: each byte of a chunk goes by the table of its place.
-ghost use Rattle.std.specs.Prelude.{◌≡◌, ◌+◌, ◌*◌, ◌%◌, ◌<◌, fold};
+ghost use Rattle.std.specs.Prelude.{◌≡◌, ◌+◌, ◌*◌, ◌%◌, ◌<◌, ◌∷◌, drop, fold};
 ghost use Rattle.nn_wire.specs.Crc32.{next_bits, with_byte, crc32_of};
 
 use crate::table::{SHIFTED, SLICES};
@@ -23,6 +23,14 @@ fn after_byte(register: u32, byte: u8) -> u32
     low_shifted(register ^ u32::from(byte), 0) ^ (register >> 8)
 }
 
+// The register once the first bytes of a chunk have met it, all at once. Zeros come in their place.
+#[inline(always)]
+fn met(register: u32, chunk: &[u8; SLICES]) -> u32
+    ensures { fold with_byte result (0 ∷ 0 ∷ 0 ∷ 0 ∷ drop 4 chunk.now) ≡ fold with_byte register chunk.now }
+{
+    register ^ u32::from_le_bytes([chunk[0], chunk[1], chunk[2], chunk[3]])
+}
+
 #[inline(always)]
 fn after_chunk(register: u32, chunk: &[u8; SLICES]) -> u32
     ensures { result ≡ fold with_byte register chunk.now }
@@ -32,9 +40,9 @@ fn after_chunk(register: u32, chunk: &[u8; SLICES]) -> u32
     'later: for place in REGISTER_LEN..SLICES {
         after ^= low_shifted(u32::from(chunk[place]), SLICES - 1 - place);
     }
-    let mut left = register;
+    let mut left = met(register, chunk);
     'first: for place in 0..REGISTER_LEN {
-        after ^= low_shifted(left ^ u32::from(chunk[place]), SLICES - 1 - place);
+        after ^= low_shifted(left, SLICES - 1 - place);
         left >>= 8;
     }
     after

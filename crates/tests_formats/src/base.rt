@@ -229,12 +229,16 @@ fn names_labels_and_paths_take_what_their_form_allows(rt: HostRuntime) -> Result
     for bytes in [b"user", b"hdfs"] {
         names.push(Name::of(alloc, bytes)?.ok_or("a name")?.copy(alloc)?)?;
     }
-    let path = Path::of(names).ok_or("a path")?;
+    let path = Path::of(alloc, &names)?.ok_or("a path")?;
     assert_eq!(rt; path.depth(), 2);
-    assert_eq!(rt; path.name(1).bytes(), b"hdfs".as_slice());
+    assert_eq!(rt; path.bytes(), b"/user/hdfs".as_slice());
+    assert_eq!(rt; path.last_name(alloc)?.bytes(), b"hdfs".as_slice());
+    assert_eq!(rt; path.copy(alloc)?.bytes(), path.bytes());
+    assert_eq!(rt; path.components().take_name(), b"user".as_slice());
     let parent = path.parent(alloc)?;
     assert_eq!(rt; parent.depth(), 1);
-    assert_eq!(rt; parent.name(0).bytes(), b"user".as_slice());
+    assert_eq!(rt; parent.bytes(), b"/user".as_slice());
     assert_eq!(rt; Path::root(alloc).depth(), 0);
+    assert_eq!(rt; Path::root(alloc).bytes(), b"/".as_slice());
     Ok(())
 }

@@ -36,7 +36,7 @@ fn path(alloc: Global, text: &str) -> Result<Path, Fail> {
             names.push(Name::of(alloc, part.as_bytes())?.ok_or("a name")?)?;
         }
     }
-    Ok(Path::of(names).ok_or("a path")?)
+    Ok(Path::of(alloc, &names)?.ok_or("a path")?)
 }
 
 fn is_number(rt: &impl Abort, number: Option<u64>)
@@ -270,7 +270,7 @@ fn a_name_of_255_bytes_is_made(rt: HostRuntime) -> Result<(), Fail> {
     let bytes = vec![in alloc; b'a'; 255]?;
     let mut names = Vec::new(alloc);
     names.push(Name::of(alloc, &bytes)?.ok_or("a name")?)?;
-    let path = Path::of(names).ok_or("a path")?;
+    let path = Path::of(alloc, &names)?.ok_or("a path")?;
     assert!(rt; prepare(alloc, &mut tree, Command::Mkdir { path }, 0).is_ok());
     Ok(())
 }

@@ -11,8 +11,8 @@ use nn_base::{Label, Path, PathFault};
 use nn_ops::{Command, OpRefusal};
 use nn_quota::{Quota, Usage};
 use nn_script::{
-    Answer, MAX_ANSWER, MAX_PART, ScriptCommand, Syntax, block_line, line_read, name_text,
-    node_words,
+    Answer, MAX_ANSWER, MAX_PART, ScriptCommand, Syntax, Unrestored, block_line, line_read,
+    name_text, node_words,
 };
 use nn_tree::{Block, Blocks, Kind, Node};
 use std::alloc::Global;
@@ -277,12 +277,25 @@ fn names_have_255_bytes_and_paths_8000(rt: HostRuntime) -> Result<(), Fail> {
     Ok(())
 }
 
-const ANSWERS: [(Answer, &[u8]); 22] = [
+const ANSWERS: [(Answer, &[u8]); 26] = [
     (Answer::Done, b"ok\n"),
     (Answer::Count(0), b"ok 0\n"),
     (Answer::Count(1_048_576), b"ok 1048576\n"),
     (Answer::Dry, b"refused dry\n"),
     (Answer::Later, b"refused later\n"),
+    (
+        Answer::NotRestored(Unrestored::NoSuchDir),
+        b"refused no-such-dir\n",
+    ),
+    (
+        Answer::NotRestored(Unrestored::Missing),
+        b"refused missing\n",
+    ),
+    (
+        Answer::NotRestored(Unrestored::Inconsistent),
+        b"refused inconsistent\n",
+    ),
+    (Answer::NotRestored(Unrestored::Failed), b"refused failed\n"),
     (Answer::Refused(OpRefusal::Exists), b"refused exists\n"),
     (Answer::Refused(OpRefusal::NotFound), b"refused not-found\n"),
     (Answer::Refused(OpRefusal::NotDir), b"refused not-dir\n"),
@@ -351,6 +364,7 @@ fn is_said(answer: Answer) -> bool
         Answer::Count(_) => true,
         Answer::Dry => true,
         Answer::Later => true,
+        Answer::NotRestored(_) => true,
     }
 }
 

@@ -20,7 +20,7 @@ fn path(alloc: Global, parts: &[&[u8]]) -> Result<Path, Fail> {
     for part in parts {
         names.push(Name::of(alloc, part)?.ok_or("a name")?)?;
     }
-    Ok(Path::of(names).ok_or("a path")?)
+    Ok(Path::of(alloc, &names)?.ok_or("a path")?)
 }
 
 /// A node that has nothing but an id.
@@ -121,7 +121,7 @@ fn make<T: Tree>(
 {
     assert!(rt; path.depth() > 0);
     let above = path.parent(alloc)?;
-    let name = path.name(path.depth() - 1).copy(alloc)?;
+    let name = path.last_name(alloc)?;
     let at = found(rt, tree, &above);
     tree.reserve(at)?;
     let parent = found(rt, tree, &above);
@@ -141,7 +141,7 @@ fn move_up<T: Tree>(
 ) -> Result<Spot, Fail> {
     assert!(rt; to.depth() > 0);
     let above = to.parent(alloc)?;
-    let name = to.name(to.depth() - 1).copy(alloc)?;
+    let name = to.last_name(alloc)?;
     assert!(rt; above.depth() < from.depth());
     let at = found(rt, tree, from);
     let parent = found(rt, tree, &above);

@@ -1,11 +1,14 @@
 // Reads the text of a path.
-ghost use Rattle.std.specs.Prelude.{◌≡◌, ◌≢◌, false, None, Some, MatchResult, IfOk, IfErr};
-ghost use Rattle.nn_base.specs.Paths.{Names, IsPath, has_slash, text_of};
-ghost use Rattle.nn_base.specs.PathText.{parts, part_fault, fault_among, fault_of};
+ghost use Rattle.std.specs.Prelude.{◌≡◌, ◌≢◌, ◌≤◌, None, Some, length, take, MatchResult, IfOk, IfErr};
+ghost use Rattle.std.specs.List.{slice_split, position_from, position_or_len, before_first};
+ghost use Rattle.nn_base.specs.Limits.{most_path};
+ghost use Rattle.nn_base.specs.Paths.{Names, IsPath, text_of};
+ghost use Rattle.nn_base.specs.PathText.{part_fault, fault_among, fault_of};
+ghost use Rattle.nn_base.specs.PathHeld.{is_slash, is_special};
 
-use crate::limits::MOST_PATH;
-use crate::name::is_bad_name;
-use crate::{Name, Path, PathFault};
+use crate::limits::{MOST_LEVELS, MOST_NAME, MOST_PATH};
+use crate::name::is_dots;
+use crate::{Path, PathFault};
 use std::alloc::Global;
 
 impl Path {
@@ -25,33 +28,67 @@ impl Path {
         if MOST_PATH < text.len() {
             return Err(PathFault::LongPath);
         }
-        let names = names_in(alloc, rest)?;
-        // Their text isn't too long, so only their count can be against a path.
-        Path::of(names).ok_or(PathFault::Deep)
+        if rest.is_empty() {
+            return Ok(Path::root(alloc));
+        }
+        let depth = count_names(rest)?;
+        if MOST_LEVELS < depth {
+            return Err(PathFault::Deep);
+        }
+        Ok(Path {
+            text: text.to_vec(alloc)?,
+            depth,
+        })
     }
 }
 
-fn names_in(alloc: Global, rest: &[u8]) -> Result<Vec<Name>, PathFault>
-    ensures ok { IfOk result (λ names. (names.items ≡ parts rest.now) × (fault_among (parts rest.now) ≡ None)) }
-    ensures err { IfErr result (λ fault. fault ≢ PathFault.Memory → fault_among (parts rest.now) ≡ Some fault) }
+/// How many names slashes separate.
+fn count_names(text: &[u8]) -> Result<usize, PathFault>
+    requires { length text.now ≤ most_path }
+    ensures ok { IfOk result (λ count. (count ≡ length (slice_split is_slash text.now)) × (fault_among (slice_split is_slash text.now) ≡ None)) }
+    ensures err { IfErr result (λ fault. fault_among (slice_split is_slash text.now) ≡ Some fault) }
 {
-    let mut names = Vec::new(alloc);
-    if rest.is_empty() {
-        return Ok(names);
+    let mut count = 1;
+    let mut left = text;
+    'names: loop {
+        let len = name_len(left)?;
+        if len == left.len() {
+            return Ok(count);
+        }
+        left = &left[len + 1..];
+        count += 1;
     }
-    for part in rest.split(|byte| *byte == b'/') {
-        names.push(name_of(alloc, part)?)?;
-    }
-    Ok(names)
 }
 
-fn name_of(alloc: Global, part: &[u8]) -> Result<Name, PathFault>
-    requires { has_slash part.now ≡ false }
-    ensures ok { IfOk result (λ name. (name ≡ part.now) × (part_fault part.now ≡ None)) }
-    ensures err { IfErr result (λ fault. fault ≢ PathFault.Memory → part_fault part.now ≡ Some fault) }
+/// How many bytes stand before the first `/`, where they are a name.
+fn name_len(text: &[u8]) -> Result<usize, PathFault>
+    ensures within { IfOk result (λ len. len ≤ length text.now) }
+    ensures ok { IfOk result (λ len. (len ≡ position_or_len is_slash text.now) × (part_fault (take len text.now) ≡ None)) }
+    ensures err { IfErr result (λ fault. part_fault (before_first is_slash text.now) ≡ Some fault) }
 {
-    if is_bad_name(part) {
+    let len = plain_len(text);
+    if len < text.len() && text[len] != b'/' {
         return Err(PathFault::BadName);
     }
-    Name::of(alloc, part)?.ok_or(PathFault::LongName)
+    if len == 0 || is_dots(&text[..len]) {
+        return Err(PathFault::BadName);
+    }
+    if MOST_NAME < len {
+        return Err(PathFault::LongName);
+    }
+    Ok(len)
+}
+
+/// How many bytes stand before the first that ends a name, or that no name has.
+fn plain_len(text: &[u8]) -> usize
+    ensures { result ≡ position_or_len is_special text.now }
+{
+    first_special(text).unwrap_or(text.len())
+}
+
+fn first_special(text: &[u8]) -> Option<usize>
+    ensures { result ≡ position_from is_special 0 text.now }
+{
+    text.iter()
+        .position(|byte| *byte == b'/' || (*byte == 0 || *byte == b':'))
 }

@@ -9,7 +9,7 @@ use Rattle.nn_ops.proofs.rename.prepare_rename.Goals as goal
 pub returns-in_err-parent-clause-err : goal.returns-in_err-parent-clause-err
 returns-in_err-parent-clause-err g c =
     let m = (g.T.Tree.meaning c.args.tree.now).nodes in
-    passed_on_early (moved_tests m c.args.from c.args.to) (free_tests m c.args.to) (last_tests m c.args.from c.args.to) _ _ c.in_ok-at.ensures.ok c.from_residual-in_err-parent.ensures.1 c.in_err-parent.ensures.err
+    passed_on_early (moved_tests m c.args.from c.args.to) (free_tests m c.args.to) (last_tests m c.args.from c.args.to) _ _ c.in_ok-at.ensures.ok c.from_residual-in_err-parent.ensures.1 (λ _. c.in_err-parent.ensures.err)
 
 pub fits_move-requires-clause-outside : goal.fits_move-requires-clause-outside
 fits_move-requires-clause-outside g c = not_below (g.T.Tree.meaning c.args.tree.now).nodes c.args.from c.args.to c.in_ok-at.ensures.ok c.in_ok-parent.ensures.ok

@@ -1,7 +1,6 @@
-use Rattle.std.proofs.Common.{arith, sym, ◌∙◌, ◌≡◌, ◌≤◌, ◌⊎◌, inl, inr, Bool, true, false, not, length, nat_eq, refl}
-use Rattle.std.specs.Cmp.Lexicographic.{pointwise}
+use Rattle.std.proofs.Common.{arith, sym, ◌∙◌, ◌≡◌, ◌≤◌, ◌⊎◌, inl, inr, Bool, true, false, not, length, refl}
 use Rattle.std.proofs.lemmas.Bool.Decides.{leb_tells}
-use Rattle.nn_ops.proofs.SharedLemmas.{shared_more, shared_ends, shared_all}
+use Rattle.nn_ops.proofs.SharedLemmas.{drop_next, shared_more, shared_ends, shared_all}
 use Rattle.nn_ops.proofs.rename.shared.Goals as goal
 
 is_not : (b : Bool) → true ≡ not b → b ≡ false
@@ -14,13 +13,19 @@ true_instead false h = cc
 
 pub returns-then-ne : goal.returns-then-ne
 returns-then-ne c =
-    let other : pointwise nat_eq c.name.result.now c.name-in-loop-k.result.now ≡ false = (λ i. pointwise nat_eq (sym c.bytes.ensures.value i) (sym c.bytes-in-loop-k.ensures.value i)) ∙ is_not _ c.if-ne.ensures in
-    shared_ends c.args.a.now c.args.b.now c.loop-k.k c.name.result.now c.name-in-loop-k.result.now c.name.ensures c.name-in-loop-k.ensures other c.loop-k.invariant
+    let a = sym c.loop-k.invariant.ours ∙ c.take_name.ensures.rest in
+    let b = sym c.loop-k.invariant.theirs ∙ c.take_name-in-loop-k.ensures.rest in
+    shared_ends c.args.a.now c.args.b.now c.loop-k.k _ _ _ _ a b (is_not _ c.if-ne.ensures) c.loop-k.invariant.common
 
 pub loop-k-preserved : goal.loop-k-preserved
 loop-k-preserved c =
-    let same : pointwise nat_eq c.name.result.now c.name-in-loop-k.result.now ≡ true = (λ i. pointwise nat_eq (sym c.bytes.ensures.value i) (sym c.bytes-in-loop-k.ensures.value i)) ∙ true_instead _ c.if-ne.ensures in
-    shared_more c.args.a.now c.args.b.now c.loop-k.k c.name.result.now c.name-in-loop-k.result.now c.name.ensures c.name-in-loop-k.ensures same c.loop-k.invariant
+    let a = sym c.loop-k.invariant.ours ∙ c.take_name.ensures.rest in
+    let b = sym c.loop-k.invariant.theirs ∙ c.take_name-in-loop-k.ensures.rest in
+    record {
+      common = shared_more c.args.a.now c.args.b.now c.loop-k.k _ _ _ _ a b (true_instead _ c.if-ne.ensures) c.loop-k.invariant.common;
+      ours = sym (drop_next c.args.a.now c.loop-k.k _ _ a);
+      theirs = sym (drop_next c.args.b.now c.loop-k.k _ _ b);
+    }
 
 pub returns : goal.returns
 returns c =
@@ -29,4 +34,4 @@ returns c =
       | inl h ↦ (let le = h.1 in inl (omega arith))
       | inr h ↦ (let lt = h.1 in inr (omega arith))
     ] in
-    sym k ∙ shared_all c.args.a.now c.args.b.now c.loop-k.k past c.loop-k.invariant
+    sym k ∙ shared_all c.args.a.now c.args.b.now c.loop-k.k past c.loop-k.invariant.common
