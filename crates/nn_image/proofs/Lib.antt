@@ -43,3 +43,4 @@ pub mod FirstNodeLemmas
 pub mod StringTableLemmas
 pub mod EndLemmas
 pub mod SmallLemmas
+pub mod WeightLemmas

@@ -64,9 +64,9 @@ fn blocks_of(kind: &KindView<'_>) -> u64
     }
 }
 
-/// Whether these nodes have together no more blocks than a namespace. The messages are read once more, since no memory is
-/// asked for.
-pub(crate) fn have_few_blocks(inodes: &[u8]) -> bool
+/// Whether these nodes have together no more blocks than a namespace, by a count of them. The messages are read once more,
+/// since no memory is asked for.
+fn have_few_counted(inodes: &[u8]) -> bool
     ensures { (all : List Inode) → All IsInode all → inodes.now ≡ inodes_text all → IsTrue result ↔ length (blocks_among all) ≤ most_blocks }
 {
     let mut rest = inodes;
@@ -79,4 +79,18 @@ pub(crate) fn have_few_blocks(inodes: &[u8]) -> bool
         room -= blocks;
     }
     true
+}
+
+/// The fewest bytes of a block in its file: its key, its length, and three fields of two bytes.
+const LEAST_BLOCK: u64 = 8;
+
+/// Whether these nodes have together no more blocks than a namespace. Only a section of more than 64 MiB can have more, so
+/// that the blocks of others aren't counted.
+pub(crate) fn have_few_blocks(inodes: &[u8]) -> bool
+    ensures { (all : List Inode) → All IsInode all → inodes.now ≡ inodes_text all → IsTrue result ↔ length (blocks_among all) ≤ most_blocks }
+{
+    if inodes.len() as u64 <= LEAST_BLOCK * MOST_BLOCKS {
+        return true;
+    }
+    have_few_counted(inodes)
 }

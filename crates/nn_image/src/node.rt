@@ -1,5 +1,5 @@
 // A node of an image, with its blocks in memory of its own.
-ghost use Rattle.std.specs.Prelude.{◌≡◌, ◌≢◌, List, All, IfOk, Err};
+ghost use Rattle.std.specs.Prelude.{◌≡◌, ◌≢◌, List, [], All, IfOk, Err};
 ghost use Rattle.nn_tree.specs.declared.node.Block.{Block};
 ghost use Rattle.nn_tree.specs.Limits.{IsBlock};
 ghost use Rattle.nn_image.specs.declared.unmade.Unmade.TheVariants.{Tree};
@@ -10,15 +10,25 @@ ghost use Rattle.nn_image.specs.Assembly.{node_of};
 
 use crate::owners::Owners;
 use crate::unmade::Unmade;
+use nn_base::NoMemory;
 use nn_message::{InodeView, KindView, take_block};
-use nn_tree::{Blocks, Kind, Node};
+use nn_tree::{Block, Blocks, Kind, Node};
 use std::alloc::Global;
+
+/// A list for the blocks in these bytes. Most files have one, and take no more memory than it needs.
+fn first_room(alloc: Global, bytes: &[u8]) -> Result<Vec<Block>, NoMemory>
+    ensures { IfOk result (λ list. list.items ≡ []) }
+{
+    let count = usize::from(!bytes.is_empty());
+    let list = Vec::with_capacity(alloc, count)?;
+    Ok(list)
+}
 
 fn read_blocks(alloc: Global, bytes: &[u8]) -> Result<Blocks, Unmade>
     ensures ok { (blocks : List Block) → All IsBlock blocks → bytes.now ≡ blocks_field blocks → IfOk result (λ read. read ≡ blocks) }
     ensures tree { (blocks : List Block) → All IsBlock blocks → bytes.now ≡ blocks_field blocks → result ≢ Err Tree }
 {
-    let mut list = Vec::new(alloc);
+    let mut list = first_room(alloc, bytes)?;
     let mut rest = bytes;
     'fields: while !rest.is_empty() {
         match take_block(&mut rest) {

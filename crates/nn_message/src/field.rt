@@ -58,7 +58,10 @@ pub fn delimit(at: usize, out: &mut Vec<u8>) -> Result<(), NoMemory>
 {
     let end = out.len();
     varint_put((end - at) as u64, out)?;
-    let more = out.len() - end;
-    out[at..].rotate_right(more);
+    match out.len() - end {
+        // Most messages are short: one move makes room for their one byte.
+        1 => out[at..].rotate_right(1),
+        more => out[at..].rotate_right(more),
+    }
     Ok(())
 }

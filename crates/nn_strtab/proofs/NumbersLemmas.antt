@@ -88,3 +88,40 @@ module _ {K : Type 0} (v : K → Bytes) where
         | inr (inl less) ↦ absurd (apart i j name less a b)
         | inr (inr more) ↦ absurd (apart j i name more b a)
       ]
+
+-- ---- a name whose number is known
+
+first_place : (names : List Bytes) (name : Bytes) (i : ℕ) → slice_get names i ≡ Some name → slice_get names (position_or_len (bytes_eq name) names) ≡ Some name
+first_place [] name i e = absurd (none-some _ e)
+first_place (x ∷ xs) name i e = by (bytes_eq name x) refl i e (first_place xs name)
+  where
+    by : (b : Bool) → bytes_eq name x ≡ b → (i : ℕ) → slice_get (x ∷ xs) i ≡ Some name → ((j : ℕ) → slice_get xs j ≡ Some name → slice_get xs (position_or_len (bytes_eq name) xs) ≡ Some name)
+        → slice_get (x ∷ xs) (position_or_len (bytes_eq name) (x ∷ xs)) ≡ Some name
+    by true here i e later = ap (λ b. slice_get (x ∷ xs) (cond (not b) (1 + position_or_len (bytes_eq name) xs) 0)) here ∙ ap Some (sym ((bytes_decides name x).0 here))
+    by false other zero e later = absurd (false≢true (sym other ∙ ap (bytes_eq name) (same_Some _ _ e) ∙ (bytes_decides name name).1 refl))
+    by false other (suc j) e later =
+        let k = position_or_len (bytes_eq name) xs in
+        let next : 1 + k ≡ suc k = omega arith in
+        ap (λ b. slice_get (x ∷ xs) (cond (not b) (1 + k) 0)) other ∙ ap (slice_get (x ∷ xs)) next ∙ later j e
+
+stands : (names : List Bytes) (name : Bytes) (i : ℕ) → slice_get names i ≡ Some name → list_any (bytes_eq name) names ≡ true
+stands [] name i e = absurd (none-some _ e)
+stands (x ∷ xs) name zero e = ap (λ b. b || list_any (bytes_eq name) xs) (ap (bytes_eq name) (same_Some _ _ e) ∙ (bytes_decides name name).1 refl)
+stands (x ∷ xs) name (suc i) e = by (bytes_eq name x) (stands xs name i e)
+  where
+    by : (b : Bool) → list_any (bytes_eq name) xs ≡ true → (b || list_any (bytes_eq name) xs) ≡ true
+    by true rest = refl
+    by false rest = rest
+
+-- it is the number of the name
+pub same_number : (names : List Bytes) (name : Bytes) (number : ℕ) → HaveOneNumber names → name_at names number ≡ Some name → number ≡ number_in names name
+same_number names name zero one e = absurd (none-some _ e)
+same_number names name (suc i) one e =
+    let place = position_or_len (bytes_eq name) names in
+    let next : 1 + place ≡ suc place = omega arith in
+    one (suc i) (1 + place) name e (ap (name_at names) next ∙ first_place names name i e)
+
+-- and the name stays where it is
+pub used_again : (names : List Bytes) (name : Bytes) (number : ℕ) → name_at names number ≡ Some name → names ≡ with_use names name
+used_again names name zero e = absurd (none-some _ e)
+used_again names name (suc i) e = ap (λ b. if b then names else names ++ name ∷ []) (sym (stands names name i e))

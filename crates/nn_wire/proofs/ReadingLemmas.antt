@@ -7,7 +7,7 @@ use Rattle.nn_wire.specs.declared.fault.WireFault.{WireFault}
 use Rattle.nn_wire.specs.declared.fault.WireFault.TheVariants.{Short, BadKey, NotCanonical}
 use Rattle.nn_wire.specs.Varint.{spelled_within, varint, Begins}
 use Rattle.nn_wire.specs.Fault.{IsVarintFault}
-use Rattle.nn_wire.proofs.SpellingLemmas.{room, two_fit, spelled_last, spelled_joined, by_first}
+use Rattle.nn_wire.proofs.SpellingLemmas.{room, two_fit, one_byte, spelled_last, spelled_joined, by_first}
 
 -- A number in at most k bytes, from a place of the varint on: after the first byte it isn't 0.
 pub record Fits (place k n : ℕ) : Type 0 where
@@ -196,6 +196,15 @@ read_large bytes place low b within is large top along =
     let one : 1 ≡ suc (9 - place) = omega arith in
     let here : Reads place (suc (9 - place)) (b ∷ drop (place + 1) bytes) (Err NotCanonical) = subst (λ k. Reads place k (b ∷ drop (place + 1) bytes) (Err NotCanonical)) one (Reads-large place b (drop (place + 1) bytes) large) in
     read_fault bytes NotCanonical (along.whole (Err NotCanonical) (subst (λ t. Reads place (suc (9 - place)) t (Err NotCanonical)) (sym (at_place bytes place b within is)) here))
+
+-- a varint of one byte
+pub begins_byte : (bytes : List ℕ) (n b : ℕ) → 0 < length bytes → b ≡ get_or bytes 0 0 → n ≡ b → n < 128 → Begins bytes n (drop 1 bytes)
+begins_byte bytes n b some is same low =
+    let first : bytes ≡ b ∷ drop 1 bytes = at_place bytes 0 b some is in
+    record {
+      small = omega arith;
+      text = first ∙ ap (λ x. x ∷ drop 1 bytes) (sym same) ∙ sym (ap (λ t. t ++ drop 1 bytes) (one_byte n low));
+    }
 
 -- what the code makes of a byte's bits and the lower ones
 pub joined_bits : (value bits place : ℕ) → place ≤ 9 → bits < 128 → (place ≡ 9 → bits ≤ 1) → value < 2 ^ (7 * place) → bit_or value (bits * 2 ^ (7 * place) % 2 ^ 64) ≡ bits * 2 ^ (7 * place) + value

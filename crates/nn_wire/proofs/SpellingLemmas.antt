@@ -109,6 +109,11 @@ put_more text whole last rest within low high fits so_far =
 pub put_last : (text whole : List ℕ) (last rest : ℕ) → last < length text → rest < 128 → take last text ++ spelled_within (suc (9 - last)) rest ≡ whole → take (last + 1) (set text last rest) ≡ whole
 put_last text whole last rest within low so_far = take_more_set text last rest within ∙ sym (ap (λ t. take last text ++ t) (spelled_last (9 - last) rest low)) ∙ so_far
 
+-- the spelling of one byte
+pub one_byte : (n : ℕ) → n < 128 → varint n ≡ n ∷ []
+unfolding varint
+one_byte n low = spelled_last 9 n low
+
 -- a spelling has a byte at least
 pub varint_some : (n : ℕ) → 0 < length (varint n)
 unfolding varint

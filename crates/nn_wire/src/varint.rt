@@ -28,7 +28,20 @@ fn spelled(value: u64) -> ([u8; LONGEST], usize)
     (text, last + 1)
 }
 
+fn put_spelled(value: u64, out: &mut Vec<u8>) -> Result<(), NoMemory>
+    ensures ok { OnOk result (out.new.items ≡ out.old.items ++ varint value) }
+    ensures err { OnErr result (out.new.items ≡ out.old.items) }
+{
+    let at = out.len();
+    let (text, len) = spelled(value);
+    // All ten bytes go out, as that is one move of a known size, and the room behind the varint is given back.
+    out.extend_from_slice(&text)?;
+    out.truncate(at + len);
+    Ok(())
+}
+
 /// Appends the value's varint, 1 to 10 bytes: seven bits a byte, the lowest first, as in Protocol Buffers.
+#[inline(always)]
 pub fn varint_put(value: u64, out: &mut Vec<u8>) -> Result<(), NoMemory>
     ensures ok { OnOk result (out.new.items ≡ out.old.items ++ varint value) }
     ensures err { OnErr result (out.new.items ≡ out.old.items) }
@@ -36,36 +49,53 @@ pub fn varint_put(value: u64, out: &mut Vec<u8>) -> Result<(), NoMemory>
     // It is the one text that the grammar gives the value.
     ensures grammar { (bytes : List ℕ) → IsVarint bytes value ↔ (bytes ≡ varint value) }
 {
-    let (text, len) = spelled(value);
-    out.extend_from_slice(&text[..len])?;
-    Ok(())
+    // Keys, lengths and most counts have one byte.
+    if value < 128 {
+        out.push(value as u8)?;
+        return Ok(());
+    }
+    put_spelled(value, out)
 }
 
-/// The varint at the front of the bytes, and how many bytes it has.
-pub(crate) fn varint_read(bytes: &[u8]) -> Result<(u64, usize), WireFault>
+/// `varint_read`, byte by byte.
+fn scan(bytes: &[u8]) -> Result<(u64, usize), WireFault>
     ensures ok { IfOk result (λ found. Begins bytes.now found.0 (drop found.1 bytes.now)) }
     ensures len { IfOk result (λ found. (found.1 ≡ length (varint found.0)) × (found.1 ≤ length bytes.now)) }
     ensures err { IfErr result (λ fault. IsVarintFault bytes.now fault) }
 {
     let mut value = 0;
     for (place, byte) in bytes.iter().enumerate() {
-        // After other bytes a 0 is needless.
-        if place > 0 && *byte == 0 {
-            return Err(WireFault::NotCanonical);
-        }
         if place == LONGEST - 1 && *byte > GREATEST_LAST {
             return Err(WireFault::NotCanonical);
         }
         value |= u64::from(*byte % 128) << (7 * place);
         if *byte < 128 {
+            // After other bytes a 0 is needless.
+            if place > 0 && *byte == 0 {
+                return Err(WireFault::NotCanonical);
+            }
             return Ok((value, place + 1));
         }
     }
     Err(WireFault::Short)
 }
 
+/// The varint at the front of the bytes, and how many bytes it has. Keys, lengths and most counts have one byte.
+#[inline(always)]
+pub(crate) fn varint_read(bytes: &[u8]) -> Result<(u64, usize), WireFault>
+    ensures ok { IfOk result (λ found. Begins bytes.now found.0 (drop found.1 bytes.now)) }
+    ensures len { IfOk result (λ found. (found.1 ≡ length (varint found.0)) × (found.1 ≤ length bytes.now)) }
+    ensures err { IfErr result (λ fault. IsVarintFault bytes.now fault) }
+{
+    match bytes {
+        [first, ..] if *first < 128 => Ok((u64::from(*first), 1)),
+        _ => scan(bytes),
+    }
+}
+
 /// The varint at the front of the bytes, and how many bytes it has. There is none where the bytes end early, where
 /// its last byte is a needless 0, and where it is above 2^64 - 1.
+#[inline(always)]
 pub fn varint_get(bytes: &[u8]) -> Option<(u64, usize)>
     ensures some { IfSome result (λ found. Begins bytes.now found.0 (drop found.1 bytes.now)) }
     ensures len { IfSome result (λ found. (found.1 ≡ length (varint found.0)) × (found.1 ≤ length bytes.now)) }

@@ -11,6 +11,7 @@ pub(crate) const LONGS: u64 = 1 << 63;
 /// The kind of a field of bytes, in the key's lowest bits; that of a number is 0.
 const BYTES: u64 = 2;
 
+#[inline(always)]
 pub(crate) fn take_varint(rest: &mut &[u8]) -> Option<u64>
     ensures { reading.Gives result rest.new.now (reading.number_at rest.old.now) }
 {
@@ -21,6 +22,7 @@ pub(crate) fn take_varint(rest: &mut &[u8]) -> Option<u64>
 
 /// A number of this field.
 #[tactic(auto, unfolding(crate::specs::Reading::varint_field_at))]
+#[inline(always)]
 pub(crate) fn take_number(number: u32, rest: &mut &[u8]) -> Option<u64>
     ensures { reading.Gives result rest.new.now (reading.varint_field_at number rest.old.now) }
 {
@@ -33,6 +35,7 @@ pub(crate) fn take_number(number: u32, rest: &mut &[u8]) -> Option<u64>
 
 /// A time, an id, a stamp or a quota.
 #[tactic(auto, unfolding(crate::specs::MessageReading::long_at))]
+#[inline(always)]
 pub(crate) fn take_long(number: u32, rest: &mut &[u8]) -> Option<u64>
     ensures { reading.Gives result rest.new.now (messages.long_at number rest.old.now) }
 {
@@ -45,6 +48,7 @@ pub(crate) fn take_long(number: u32, rest: &mut &[u8]) -> Option<u64>
 
 /// A length, and so many bytes.
 #[tactic(auto, unfolding(crate::specs::Reading::delimited_at))]
+#[inline(always)]
 pub(crate) fn take_delimited<'a>(rest: &mut &'a [u8]) -> Option<&'a [u8]>
     ensures some { IfSome result (λ content. reading.delimited_at rest.old.now ≡ Some (content.now, rest.new.now)) }
     ensures none { IfNone result (reading.delimited_at rest.old.now ≡ None) }
@@ -60,6 +64,7 @@ pub(crate) fn take_delimited<'a>(rest: &mut &'a [u8]) -> Option<&'a [u8]>
 
 /// The content of this field.
 #[tactic(auto, unfolding(crate::specs::Reading::bytes_field_at))]
+#[inline(always)]
 pub(crate) fn take_bytes<'a>(number: u32, rest: &mut &'a [u8]) -> Option<&'a [u8]>
     ensures some { IfSome result (λ content. reading.bytes_field_at number rest.old.now ≡ Some (content.now, rest.new.now)) }
     ensures none { IfNone result (reading.bytes_field_at number rest.old.now ≡ None) }

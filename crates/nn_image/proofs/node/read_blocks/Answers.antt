@@ -9,7 +9,7 @@ use Rattle.nn_image.proofs.TakingLemmas.{takes_first, none_left, field_some, is_
 use Rattle.nn_image.proofs.node.read_blocks.Goals as goal
 
 pub fields-init : goal.fields-init
-fields-init c = λ blocks all spelled. (blocks, all, spelled, ap (λ b. b ++ blocks) (sym c.new-list.ensures.items))
+fields-init c = λ blocks all spelled. (blocks, all, spelled, ap (λ b. b ++ blocks) (sym c.in_ok-list.ensures))
 
 pub fields-preserved : goal.fields-preserved
 unfolding blocks_field

@@ -1,5 +1,5 @@
 use Rattle.nn_wire.proofs.ReadingLemmas.{Along}
-use Rattle.nn_wire.proofs.varint.varint_read.Given as goal
+use Rattle.nn_wire.proofs.varint.scan.Given as goal
 
 abbrev pub invariant-loop-place : goal.invariant-loop-place
 invariant-loop-place l = Along l.bytes l.place l.value

@@ -3,7 +3,7 @@ use Rattle.std.specs.Prelude.{All}
 use Rattle.nn_base.specs.Limits.{most_blocks}
 use Rattle.nn_message.specs.Messages.{Inode, IsInode}
 use Rattle.nn_image.specs.Building.{inodes_text, blocks_among}
-use Rattle.nn_image.proofs.count.have_few_blocks.Given as goal
+use Rattle.nn_image.proofs.count.have_few_counted.Given as goal
 
 -- the blocks so far and the room that is left are the limit together
 abbrev pub invariant-nodes : goal.invariant-nodes

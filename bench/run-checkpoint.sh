@@ -1,0 +1,54 @@
+#!/bin/sh
+# What a start over an image, and a checkpoint, cost: instructions of a run without a line, and of one with the line `checkpoint`, less those
+# of a run over an empty namespace. Files of one block each stand in directories of a hundred. Instructions are told by valgrind, and hold
+# on a busy machine; the peak of memory is that of the process, in kB. The arguments are how many files, 20000 without them, and the folder
+# to work in, a temporary one without it. PEER, where it is set, is another program with the same commands, which is measured beside.
+set -eu
+cd "$(dirname "$0")/.."
+files=${1:-20000}
+ours=${PROGRAM:-$PWD/crates/nn_cli/out/nn_cli}
+work=$(mktemp -d "${2:-${TMPDIR:-/tmp}}/checkpoint.XXXXXX")
+trap 'rm -rf "$work"' EXIT
+test -x "$ours" || (cd crates/nn_cli && rt run -- state . > /dev/null)
+
+awk -v files="$files" 'BEGIN {
+    for (n = 0; n < files; n++) {
+        if (n % 100 == 0) { dir = "/g" n / 100; print "mkdir " dir }
+        file = dir "/f" n
+        print "create " file " 3\nblock " file " " 1 + n * 9000 % 134217728 "\nclose " file
+    }
+}' > "$work/files"
+: > "$work/nothing"
+echo checkpoint > "$work/line"
+nodes=$((files + (files + 99) / 100 + 1))
+
+instructions() {
+    valgrind --tool=cachegrind --cache-sim=no --cachegrind-out-file=/dev/null "$1" run "$work/d" < "$work/$2" 2>&1 > /dev/null | awk '/I *refs:/ { gsub(",", "", $NF); print $NF }'
+}
+peak() {
+    /usr/bin/time -f %M "$1" run "$work/d" < "$work/$2" 2>&1 > /dev/null
+}
+fresh() {
+    rm -rf "$work/d"
+    mkdir "$work/d"
+    "$1" format --cluster c1 --namespace 7 "$work/d" > /dev/null
+}
+
+for program in "$ours" ${PEER:+"$PEER"}; do
+    echo "$program, $nodes nodes"
+    fresh "$program"
+    bare=$(instructions "$program" nothing)
+    bare_line=$(instructions "$program" line)
+    bare_peak=$(peak "$program" nothing)
+    fresh "$program"
+    "$program" run "$work/d" < "$work/files" > /dev/null
+    # The first start after a run reads its records, the second the image alone.
+    "$program" run "$work/d" < "$work/nothing" > /dev/null
+    start=$(instructions "$program" nothing)
+    line=$(instructions "$program" line)
+    echo "  a start over the image: $(((start - bare) / nodes)) instructions a node"
+    echo "  a checkpoint: $(((line - start - bare_line + bare) / nodes)) instructions a node"
+    before=$(peak "$program" nothing)
+    after=$(peak "$program" line)
+    echo "  memory: $(((before - bare_peak) * 1024 / nodes)) bytes a node at a start, and $((after - before)) kB more with a checkpoint"
+done
