@@ -15,7 +15,7 @@ use Rattle.nn_segment_file.proofs.BesideLemmas.{beside_refl}
 use Rattle.nn_segment_file.proofs.CallLemmas.{logs_weaker}
 use Rattle.nn_segment_file.proofs.StageLemmas.{stage_logs, does_grow, leads_stands}
 use Rattle.nn_journal.specs.Among.{AllAt, AmongAt, StaysLive, EachCounted, OrderedAt, IsLeftAlone, LeavesAlone, SteppedAmong, SteppedAll}
-use Rattle.nn_journal.proofs.AmongLemmas.{calls_both}
+use Rattle.nn_journal.proofs.AmongLemmas.{calls_both, walk_begins, walk_whole}
 
 -- ---- parts of a set
 
@@ -211,3 +211,14 @@ module _ {told : Type 0} {step : Step} {first : ℕ} {bytes : List ℕ} {live ho
     quiet = unspoken_trans one.quiet two.quiet;
     calls = λ tells. omega (arith, one.calls tells, two.calls tells, calls_both step (count_of holding) (count_of others) (count_of live) few);
   }
+
+-- Where none holds, those that were live are the others.
+pub stepped_others : {told : Type 0} {step : Step} {first : ℕ} {bytes : List ℕ} {holders live live2 : Members} {a c : State} → ((j : ℕ) → has holders j ≡ false) → SteppedAmong told step first bytes live live live2 a c
+    → SteppedAll told step first bytes holders live live2 a c
+stepped_others {told} {step} {first} {bytes} {holders} {live} none one =
+    let nowhere : (j : ℕ) → has holders j ≡ true → ⊥ = λ j there. let apart = sym (none j) ∙ there in cc in
+    stepped_all {holding = holders}
+    (record { in_set = λ j there. absurd (nowhere j there); in_other = λ j there. there; all = λ j is_live holds. holds })
+    (record { in_set = λ j there. there; in_other = λ j there. none j; all = λ j is_live lacks. is_live })
+    (walk_whole walk_begins (λ j there. absurd (nowhere j there)))
+    one

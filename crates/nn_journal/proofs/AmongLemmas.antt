@@ -218,15 +218,18 @@ module _ {told : Type 0} {step : Step} {first : ℕ} {bytes : List ℕ} {among l
           calls = walk_calls;
         }
 
-    pub walk_ends : 8 ≤ k → SteppedAmong told step first bytes among live0 live a b
-    walk_ends is = record {
+    pub walk_whole : ((j : ℕ) → has among j ≡ true → j < k) → SteppedAmong told step first bytes among live0 live a b
+    walk_whole before = record {
       counted = so_far.counted;
       any_moment = so_far.run;
-      done = λ version list from to does tells start j member is_live. so_far.done version list from to does tells start j (omega (arith, member_below among j member, is)) member is_live;
+      done = λ version list from to does tells start j member is_live. so_far.done version list from to does tells start j (before j member) member is_live;
       left = so_far.left;
       quiet = so_far.quiet;
       calls = λ tells. omega (arith, so_far.calls tells, calls_both step (count_to k among) 0 (count_of among) (omega (arith, count_front k (values among))));
     }
+
+    pub walk_ends : 8 ≤ k → SteppedAmong told step first bytes among live0 live a b
+    walk_ends is = walk_whole (λ j member. omega (arith, member_below among j member, is))
 
 -- the same, under other terms for the set, the place and the state
 pub walked_as : {told : Type 0} {step : Step} {first : ℕ} {bytes : List ℕ} {among live0 live live2 : Members} {k : ℕ} {a b b2 : State} → live2 ≡ live → b2 ≡ b → Walked told step first bytes among live0 live k a b → Walked told step first bytes among live0 live2 k a b2

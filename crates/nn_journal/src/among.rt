@@ -22,6 +22,31 @@ pub fn step_all<H: Host>(
     ensures stepped { SteppedAll H.told step.now first.now bytes.now holders.now live.old live.new (H.state host.old) (H.state host.new) }
     ensures count { (H.state host.new).count ≡ (H.state host.old).count }
 {
+    // As a rule no directory has a saved state, and all are gone over at once.
+    if holders.is_empty() {
+        let all = *live;
+        step_among(host, live, &all, step, first, bytes);
+        return;
+    }
+    holders_first(host, live, holders, step, first, bytes);
+}
+
+// Apart, so that a record doesn't pay for it where there are none.
+#[cold]
+#[inline(never)]
+fn holders_first<H: Host>(
+    host: &mut H,
+    live: &mut DirSet,
+    holders: &DirSet,
+    step: &Step,
+    first: &FirstTxid,
+    bytes: &[u8],
+)
+    requires below { (j : ℕ) → has live.old j ≡ true → j < (H.state host.old).count }
+    requires order { (last : _) → step.now ≡ Step.End last → first.now ≤ last }
+    ensures stepped { SteppedAll H.told step.now first.now bytes.now holders.now live.old live.new (H.state host.old) (H.state host.new) }
+    ensures count { (H.state host.new).count ≡ (H.state host.old).count }
+{
     let holding = live.and(*holders);
     let others = live.and_not(*holders);
     step_among(host, live, &holding, step, first, bytes);
