@@ -39,6 +39,10 @@ abbrev pub script_of : ℕ → Bytes
 script_of zero = []
 script_of (suc k) = script_of k ++ file_lines k
 
+-- how many files a script is made for at most, as `MOST_FILES` of the code
+abbrev pub most_files : ℕ
+most_files = 500000
+
 -- the most bytes that the lines of a file have, as `MAX_FILE` of the code
 abbrev pub max_file : ℕ
 max_file = 128

@@ -7,6 +7,9 @@ ghost use Rattle.nn_generate.specs.Generated.{dir_by, path_by, dir_line, length_
 use itoa::Buffer;
 use nn_base::NoMemory;
 
+/// How many files a script is made for at most.
+pub const MOST_FILES: u32 = 500_000;
+
 /// The most bytes that the lines of a file have.
 pub const MAX_FILE: usize = 128;
 
