@@ -7,7 +7,7 @@ use Rattle.nn_server.specs.declared.status.Status.{Status}
 use Rattle.nn_server.specs.declared.status.Status.TheVariants.{Memory}
 use Rattle.nn_server.specs.Codes.{code_of}
 use Rattle.nn_serve.specs.Ran.{RunRan}
-use Rattle.nn_top.specs.Wanted.{Wanted, States, Format, Dry, Run, dirs_in}
+use Rattle.nn_top.specs.Wanted.{Wanted, States, Format, Dry, Generate, Run, dirs_in}
 use Rattle.nn_top.specs.Commands.{wanted_by, HaveNoReading}
 use Rattle.nn_top.specs.Did.{Unread, Did}
 use Rattle.nn_top.proofs.ReadingLemmas.{one_reading, read_or_not}
@@ -34,6 +34,7 @@ counts_alone left faults before after old new Dry status did = record {
   };
   closes = did.closes;
 }
+counts_alone left faults before after old new (Generate count) status did = (ap faults did.0, did.1)
 counts_alone left faults before after old new (Run at dirs) status did = record {
   ended = record {
     end = did.ended.end;
@@ -54,6 +55,7 @@ counts_alone left faults before after old new (Run at dirs) status did = record 
       cause = ran.cause;
       once = ran.once;
       live = ran.live;
+      tried = ran.tried;
       complete = λ never. absurd never;
     };
     closes = did.ended.closes;

@@ -1,6 +1,7 @@
 // What the reading of words tests in ways of its own: the values of options, and how directories stand.
 use nn_base::limits::MOST_DIRS;
 use nn_base::{Word, decimal};
+use nn_generate::MOST_FILES;
 
 /// An option that takes a value.
 #[derive(Clone, Copy)]
@@ -61,6 +62,8 @@ pub enum Flaw<'a> {
     Again(&'a str),
     /// A directory behind the eighth.
     TooMany(&'a str),
+    /// What stands in the place of the number of files, and is none that `generate` takes.
+    Count(&'a str),
 }
 
 /// The first flaw of the words behind a command that takes these options. None doesn't mean that they have a reading: a word that is
@@ -102,6 +105,22 @@ pub fn flaw_of<'a>(choices: &[Choice], words: &'a [String]) -> Option<Flaw<'a>> 
         rest = behind;
     }
     None
+}
+
+/// The flaw of the first word behind `generate`, which is its number.
+pub fn count_flaw(words: &[String]) -> Option<Flaw<'_>> {
+    let word = words.first()?.as_str();
+    if (word == "--" || is_plain(word)) && !is_count(word) {
+        return Some(Flaw::Count(word));
+    }
+    None
+}
+
+fn is_count(word: &str) -> bool {
+    match decimal::number(word.as_bytes()) {
+        Some(number) => 1 <= number && number <= u64::from(MOST_FILES),
+        None => false,
+    }
 }
 
 // The directories that stand here, and the words behind them: all behind a `--`, and else those up to the next option.

@@ -2,7 +2,7 @@
 //
 // Whether words have a reading is for `command_of` of nn_top to say. Of words that have none, what the reading tests in ways of its
 // own is looked for first; the rest is what `clap` says of a command of the same options and directories.
-use crate::flaw::{Choice, Flaw, flaw_of};
+use crate::flaw::{Choice, Flaw, count_flaw, flaw_of};
 use clap::error::ErrorKind;
 use clap::{Arg, ArgAction, Command, Error};
 use std::alloc::{AllocError, Global};
@@ -10,7 +10,8 @@ use std::alloc::{AllocError, Global};
 const ALL: &str = "namenode state DIR..
        namenode format --cluster C --namespace N DIR..
        namenode dry < SCRIPT
-       namenode run [--at T] DIR.. < SCRIPT";
+       namenode run [--at T] DIR.. < SCRIPT
+       namenode generate N";
 
 #[derive(Clone, Copy)]
 enum Form {
@@ -18,6 +19,7 @@ enum Form {
     Format,
     Dry,
     Run,
+    Generate,
 }
 
 impl Form {
@@ -27,6 +29,7 @@ impl Form {
             "format" => Some(Form::Format),
             "dry" => Some(Form::Dry),
             "run" => Some(Form::Run),
+            "generate" => Some(Form::Generate),
             _ => None,
         }
     }
@@ -37,14 +40,16 @@ impl Form {
             Form::Format => "namenode format --cluster C --namespace N DIR..",
             Form::Dry => "namenode dry < SCRIPT",
             Form::Run => "namenode run [--at T] DIR.. < SCRIPT",
+            Form::Generate => "namenode generate N",
         }
     }
 
-    fn choices(self) -> &'static [Choice] {
+    fn flaw<'a>(self, words: &'a [String]) -> Option<Flaw<'a>> {
         match self {
-            Form::State | Form::Dry => &[],
-            Form::Format => &[Choice::Cluster, Choice::Namespace],
-            Form::Run => &[Choice::At],
+            Form::State | Form::Dry => flaw_of(&[], words),
+            Form::Format => flaw_of(&[Choice::Cluster, Choice::Namespace], words),
+            Form::Run => flaw_of(&[Choice::At], words),
+            Form::Generate => count_flaw(words),
         }
     }
 }
@@ -69,7 +74,7 @@ fn error_of(alloc: Global, words: &[String]) -> Result<Error, Error> {
         let message = format!(in alloc; "unrecognized command '{command}'")?;
         return error(forms(alloc), ErrorKind::InvalidSubcommand, message.as_str());
     };
-    if let Some(flaw) = flaw_of(form.choices(), later) {
+    if let Some(flaw) = form.flaw(later) {
         let message = message_of(alloc, &flaw)?;
         return error(
             command_of(alloc, form)?,
@@ -101,7 +106,7 @@ fn bare<'a>(alloc: Global, name: &'a str, usage: &'a str) -> Command<'a> {
         .disable_version_flag(true)
 }
 
-// A command: its options, and its directories as the last words.
+// A command: its options, and its directories or its number as the last words.
 fn command_of<'a>(alloc: Global, form: Form) -> Result<Command<'a>, AllocError> {
     let command = bare(alloc, "namenode", form.usage());
     match form {
@@ -114,6 +119,10 @@ fn command_of<'a>(alloc: Global, form: Form) -> Result<Command<'a>, AllocError> 
         }
         Form::Dry => Ok(command),
         Form::Run => with_dirs(alloc, command.arg(option(alloc, Choice::At, "T"))?),
+        Form::Generate => {
+            let count = Arg::new(alloc, "count").value_name("N").required(true);
+            command.arg(count)
+        }
     }
 }
 
@@ -163,6 +172,9 @@ fn message_of(alloc: Global, flaw: &Flaw<'_>) -> Result<String, AllocError> {
         Flaw::Again(dir) => format!(in alloc; "the directory '{dir}' is given twice"),
         Flaw::TooMany(dir) => {
             format!(in alloc; "the directory '{dir}' is one too many: there are at most 8")
+        }
+        Flaw::Count(word) => {
+            format!(in alloc; "'generate' takes a number from 1 to 500000, and not '{word}'")
         }
     }
 }

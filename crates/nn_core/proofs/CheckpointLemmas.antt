@@ -15,7 +15,7 @@ use Rattle.nn_core.specs.Written.{AllCheckpointed}
 use Rattle.nn_core.proofs.StandLemmas.{starts_at, leads_steadily}
 
 -- they stand with their last images
-imaged : (version : Version) (journal : JournalSet) (ns : Namespace) (a : State) → ((j : ℕ) → has journal.live j ≡ true → j < a.count) → (stands : Stands version journal ns a) → AreImaged version stands.list stands.stage journal a
+pub imaged : (version : Version) (journal : JournalSet) (ns : Namespace) (a : State) → ((j : ℕ) → has journal.live j ≡ true → j < a.count) → (stands : Stands version journal ns a) → AreImaged version stands.list stands.stage journal a
 imaged version journal ns a among stands = record {
   matches = stands.matches;
   disks = stands.disks;

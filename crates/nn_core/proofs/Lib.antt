@@ -5,5 +5,6 @@ pub mod LineLemmas
 pub mod PlainLemmas
 pub mod StepLemmas
 pub mod EndLemmas
-pub mod LiveLemmas
 pub mod CheckpointLemmas
+pub mod WorkLemmas
+pub mod RestoreLemmas

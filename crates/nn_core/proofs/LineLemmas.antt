@@ -1,5 +1,5 @@
 -- Which lines have an answer, what a command is answered, and a step under other names.
-use Rattle.std.proofs.Common.{◌≡◌, ◌≢◌, inl, inr, ⊎_elim, ℕ, false, Option, Some, None, Result, Ok, sym, ◌∙◌, ap, subst}
+use Rattle.std.proofs.Common.{◌≡◌, ◌≢◌, inl, inr, ⊎_elim, ℕ, ◌<◌, nat_lt, Bool, true, false, ◌&&◌, if◌then◌else◌, Option, Some, None, Result, Ok, refl, sym, ◌∙◌, ap, subst}
 use Rattle.std.proofs.lemmas.Bool.{cases_Bool}
 use Rattle.nn_base.specs.Paths.{Bytes}
 use Rattle.nn_host.specs.Moments.{State}
@@ -19,7 +19,9 @@ use Rattle.nn_script.specs.declared.command.ScriptCommand.{ScriptCommand}
 use Rattle.nn_script.specs.declared.syntax.Syntax.{Syntax}
 use Rattle.nn_script.specs.Lines.{has_no_answer}
 use Rattle.nn_script.specs.Reading.{reading_of}
-use Rattle.nn_run.specs.Running.{Running, Sight, RunReply, reply_read, reply_at}
+use Rattle.nn_run.specs.Running.{Running, Sight, Asked, RunReply, Failed, is_taken_back, restored_dir, back_of, back_at, is_back, reply_read, reply_at}
+use Rattle.nn_run.specs.Flights.{IsBackIn}
+use Rattle.nn_run.specs.Steps.{SeesRestored}
 use Rattle.nn_run.proofs.LineLemmas.{read_none}
 use Rattle.nn_core.specs.declared.event.End.{End}
 use Rattle.nn_core.specs.Ready.{IsReady}
@@ -37,6 +39,34 @@ module _ (reading : Result (Option ScriptCommand) Syntax) (some : reading ≢ Ok
 
   pub reply_is : (count : ℕ) (run : Running) (sight : Sight) (reply : RunReply) → reply_read count run sight reading ≡ reply → reply_at count run (record { line = line; sight = sight }) ≡ reply
   reply_is count run sight reply is = ap (λ r. reply_read count run sight r) reads ∙ is
+
+-- ---- a line by which no directory is taken back
+
+-- none is, as it was seen at it
+module _ (count : ℕ) (asked : Asked) (failed : asked.sight.restored ≡ Failed) where
+  and_false : (b : Bool) → (b && false) ≡ false
+  and_false true = refl
+  and_false false = refl
+
+  by_dir : (dir : Option ℕ) (i : ℕ) → is_back (back_of count asked.sight dir) i ≡ false
+  by_dir None i = refl
+  by_dir (Some dir) i = ap (λ b. is_back (if b then Some (record { dir = dir; faults = asked.sight.faults dir }) else None) i) (ap (λ r. nat_lt dir count && is_taken_back r) failed ∙ and_false (nat_lt dir count))
+
+  pub none_taken : (i : ℕ) → is_back (back_at count asked) i ≡ false
+  none_taken i = by_dir (restored_dir (reading_of asked.line)) i
+
+  pub none_back : (live : ℕ → Bool) → IsBackIn count live asked
+  none_back live i below e = absurd (let apart = sym (none_taken i) ∙ e in cc)
+
+-- none was to be, whatever was seen
+pub unasked_back : (count : ℕ) (live : ℕ → Bool) (asked : Asked) → restored_dir (reading_of asked.line) ≡ None → IsBackIn count live asked
+unasked_back count live asked none i below e = absurd (let apart = sym (ap (λ dir. is_back (back_of count asked.sight dir) i) none) ∙ e in cc)
+
+abbrev pub TakesNone : ℕ → Result (Option ScriptCommand) Syntax → Type 0
+TakesNone count reading = (i : ℕ) → i < count → restored_dir reading ≢ Some i
+
+pub sees_none : (count : ℕ) (reading : Result (Option ScriptCommand) Syntax) (live : ℕ → Bool) (asked : Asked) → TakesNone count reading → reading_of asked.line ≡ reading → SeesRestored count live asked
+sees_none count reading live asked none reads i below e = absurd (none i below (sym (ap restored_dir reads) ∙ e))
 
 -- ---- what a command is answered
 

@@ -1,5 +1,5 @@
 -- What went out over a step, and which directories were counted and left alone.
-use Rattle.std.proofs.Common.{◌≡◌, ◌⊎◌, inl, inr, ℕ, ◌≤◌, ◌++◌, take, Result, Ok, Err, refl, sym, ◌∙◌, ap, subst, arith, ⊎_elim, false, OnOk}
+use Rattle.std.proofs.Common.{◌≡◌, ◌⊎◌, inl, inr, ℕ, ◌≤◌, ◌++◌, take, Option, Result, Ok, Err, refl, sym, ◌∙◌, ap, subst, arith, ⊎_elim, false, OnOk}
 use Rattle.std.proofs.lemmas.List.{append-nil}
 use Rattle.nn_base.specs.DirSets.{Members, has}
 use Rattle.nn_base.specs.Paths.{Bytes}
@@ -11,7 +11,8 @@ use Rattle.nn_host.proofs.RunsLemmas.{throughout_refl, throughout_trans, through
 use Rattle.nn_journal.specs.Among.{EachCounted, LeavesAlone, StaysLive, IsDropped}
 use Rattle.nn_say.specs.Saying.{SaysFronts, Says}
 use Rattle.nn_say.proofs.SayingLemmas.{concat_pieces}
-use Rattle.nn_core.specs.Events.{unless_failed, GoesOut, OutBy, AllFailed}
+use Rattle.nn_run.specs.Steps.{StepCounts}
+use Rattle.nn_core.specs.Events.{unless_failed, GoesOut, OutBy, AllFailed, IsLeftBut}
 use Rattle.nn_journal.specs.declared.journal.JournalSet.{JournalSet}
 use Rattle.nn_core.specs.declared.event.End.{End}
 
@@ -64,6 +65,13 @@ counted_on live after a b c counted same j = elim (counted j) [
 pub counted_none : (live : Members) (a : State) → EachCounted live live live a a
 counted_none live a j = inl (record { same_live = refl; faults = refl })
 
+-- of a line by which no directory is taken back
+pub steps_of : (dir : Option ℕ) (live after : Members) (a b : State) → EachCounted live live after a b → StepCounts dir (has live) (has after) a b
+steps_of dir live after a b counted j = elim (counted j) [
+  | inl stays ↦ inl (stays.same_live, stays.faults)
+  | inr dropped ↦ inr (inl (dropped.was_among, dropped.not_live, dropped.faults))
+]
+
 -- each live directory failed
 pub all_failed : (journal after : JournalSet) (a b : State) → EachCounted journal.live journal.live after.live a b → ((j : ℕ) → has after.live j ≡ false) → AllFailed journal after a b
 all_failed journal after a b counted none j = (
@@ -87,3 +95,6 @@ left_on live a b c text left fronts = throughout_trans
       others = λ j out. ap (λ (dirs : ℕ → Dir). dirs j) is.0 ∙ end.others j out;
       failed = λ j high. ap (λ (dirs : ℕ → Dir). dirs j) (is.0 ∙ sym (fronts.ends tells).0);
     }))
+
+pub left_but : {told : Type 0} (dir : Option ℕ) (live : Members) (a c : State) → LeavesAlone told live a c → Throughout told a c (IsLeftBut dir live a c)
+left_but dir live a c left = throughout_weaker left (λ tells m is. record { grown = is.grown; others = λ j apart out. is.others j out; failed = λ j apart high. is.failed j high })

@@ -15,8 +15,8 @@ pub enum Event {
 pub enum End {
     /// A call on each live directory failed. Nothing was answered.
     NoneLeft,
-    /// Memory ran out, and nothing was answered: over a command before anything was written, or over a checkpoint, after which
-    /// the directories are as after a stop.
+    /// Memory ran out, and nothing was answered: over a command before anything was written, or over a checkpoint or a directory
+    /// that was to be taken back, after which the directories are as after a stop.
     Memory,
     /// The output failed over the answer.
     OutFault,

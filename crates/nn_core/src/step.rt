@@ -2,26 +2,18 @@
 ghost use Rattle.std.specs.Prelude.{◌≡◌, ◌≢◌, ◌+◌, ◌<◌, ◌≤◌, ◌^◌, IfOk, OnOk, OnErr, None, Some, Ok, ℕ, true, false};
 ghost use Rattle.nn_base.specs.DirSets.{has};
 ghost use Rattle.nn_tree.specs.Imaged.{IsImaged};
-ghost use Rattle.nn_ops.specs.Bodies.{op_of};
-ghost use Rattle.nn_ops.specs.Commands.{IsCommand};
-ghost use Rattle.nn_ops.specs.Plans.{IsReady as IsPlanned};
-ghost use Rattle.nn_ops.specs.Step.{refusal_of};
-ghost use Rattle.nn_ops.specs.declared.refusal.OpRefusal.TheVariants.{Memory};
-ghost use Rattle.nn_script.specs.declared.answer.Answer.TheVariants.{Refused};
-ghost use Rattle.nn_script.specs.Spelling.{IsSaid};
-ghost use Rattle.nn_script.specs.declared.command.ScriptCommand.TheVariants.{Namespace as ChangeLine, Roll as RollLine, Checkpoint as CheckpointLine};
+ghost use Rattle.nn_script.specs.declared.command.ScriptCommand.TheVariants.{Roll as RollLine, Checkpoint as CheckpointLine};
 ghost use Rattle.nn_script.specs.Reading.{IsInRange};
 ghost use Rattle.nn_core.specs.Ready.{IsReady};
 ghost use Rattle.nn_core.specs.Events.{IsEvent, read_as, unless_failed, HasStepped, HasEnded};
 
 use crate::event::{End, Event};
-use crate::record::{close_segment, roll_segment, write_record};
+use crate::record::{close_segment, roll_segment};
 use nn_base::{DirNo, DirSet, NoMemory, Txid};
 use nn_ckpt::{RunFault, checkpoint};
 use nn_host::{Failed, Host};
 use nn_journal::{JournalSet, NoneLeft};
 use nn_marks::Version;
-use nn_ops::{Command, OpRefusal, Plan, apply, prepare};
 use nn_say::{Speech, say_dirs, say_list};
 use nn_script::{Answer, ScriptCommand};
 use nn_tree::Tree;
@@ -86,7 +78,8 @@ impl<T: Tree> Core<T> {
 
     /// Answers an event. The record of a command is synced in each live directory before its answer is said; a directory in
     /// which a call fails is dropped, and the others roll, so that it ranks below them. An answer goes out in one call of the
-    /// output, a longer listing in several. A checkpoint is of the namespace before its line.
+    /// output, a longer listing in several. A checkpoint is of the namespace before its line, and so is the image by which a dropped
+    /// directory is taken back.
     pub fn step<H: Host>(&mut self, alloc: Global, host: &mut H, event: Event) -> Result<(), End>
         requires ready { IsReady self.old.journal self.old.count (H.state host.old) }
         requires ids { self.old.journal.last + 128 < 2 ^ 63 }
@@ -143,44 +136,7 @@ impl<T: Tree> Core<T> {
             ScriptCommand::Roll => self.roll(host),
             ScriptCommand::Checkpoint => self.checkpoint(alloc, host),
             ScriptCommand::Finalize => unless_failed(self.speech.say(host, Answer::Later)),
-            ScriptCommand::Restore(_) => unless_failed(self.speech.say(host, Answer::Later)),
-        }
-    }
-
-    // Does a change, or tells why it is refused.
-    fn change<H: Host>(&mut self, alloc: Global, host: &mut H, command: Command) -> Result<(), End>
-        requires ready { IsReady self.old.journal self.old.count (H.state host.old) }
-        requires ids { self.old.journal.last + 128 < 2 ^ 63 }
-        requires command { IsCommand command }
-        ensures stepped { HasStepped H.told (Ok (Some (ChangeLine command))) self.old.count self.old.version (T.meaning self.old.tree) (T.meaning self.new.tree) self.old.time self.new.time self.old.journal self.new.journal (H.state host.old) (H.state host.new) result }
-        ensures same { (self.new.count ≡ self.old.count) × (self.new.version ≡ self.old.version) }
-        ensures imaged { IsImaged (T.meaning self.old.tree) → IsImaged (T.meaning self.new.tree) }
-    {
-        match prepare(alloc, &mut self.tree, command, self.time) {
-            Ok(plan) => self.carry_out(host, plan),
-            Err(refusal) => match spoken(refusal) {
-                Ok(answer) => unless_failed(self.speech.say(host, answer)),
-                Err(NoMemory) => Err(End::Memory),
-            },
-        }
-    }
-
-    // Does what was planned, once its record is synced.
-    fn carry_out<H: Host>(&mut self, host: &mut H, plan: Plan) -> Result<(), End>
-        requires ready { IsReady self.old.journal self.old.count (H.state host.old) }
-        requires ids { self.old.journal.last + 128 < 2 ^ 63 }
-        requires plan { IsPlanned plan (T.has self.old.tree) (T.place self.old.tree) (T.spare self.old.tree) (T.meaning self.old.tree) }
-        ensures stepped { (command : _) → refusal_of (T.meaning self.old.tree) command ≡ None → plan.op ≡ op_of (T.meaning self.old.tree) command self.old.time →
-            HasStepped H.told (Ok (Some (ChangeLine command))) self.old.count self.old.version (T.meaning self.old.tree) (T.meaning self.new.tree) self.old.time self.new.time self.old.journal self.new.journal (H.state host.old) (H.state host.new) result }
-        ensures same { (self.new.count ≡ self.old.count) × (self.new.version ≡ self.old.version) }
-        ensures imaged { IsImaged (T.meaning self.old.tree) → IsImaged (T.meaning self.new.tree) }
-    {
-        match write_record(&mut self.journal, host, plan.op()) {
-            Ok(()) => {
-                apply(&mut self.tree, plan);
-                unless_failed(self.speech.say(host, Answer::Done))
-            }
-            Err(NoneLeft) => Err(End::NoneLeft),
+            ScriptCommand::Restore(dir) => self.restore(alloc, host, dir),
         }
     }
 
@@ -214,24 +170,12 @@ impl<T: Tree> Core<T> {
     }
 }
 
-fn unless_failed(said: Result<(), Failed>) -> Result<(), End>
+pub(crate) fn unless_failed(said: Result<(), Failed>) -> Result<(), End>
     ensures { result ≡ unless_failed said }
 {
     match said {
         Ok(()) => Ok(()),
         Err(Failed) => Err(End::OutFault),
-    }
-}
-
-// What a command is answered that is refused so: want of memory is never said.
-fn spoken(refusal: OpRefusal) -> Result<Answer, NoMemory>
-    ensures is { IfOk result (λ answer. answer ≡ Refused refusal) }
-    ensures said { IfOk result IsSaid }
-    ensures told { OnOk result (refusal ≢ Memory) }
-{
-    match refusal {
-        OpRefusal::Memory => Err(NoMemory),
-        other => Ok(Answer::Refused(other)),
     }
 }
 

@@ -17,14 +17,33 @@ use Rattle.nn_state.proofs.TableLemmas.{at_rest, in_finalize, normal_seven, fres
 use Rattle.nn_state.proofs.PartLemmas.{part_current, part_checkpoint}
 use Rattle.nn_state.proofs.SeatLemmas.{same_if, same_folder}
 use Rattle.nn_remake.specs.Made.{IsBare}
-use Rattle.nn_remake.specs.Clearing.{IsAtRest, IsGivingUp, IsGivenUp, KeepsCurrent}
+use Rattle.nn_remake.specs.Clearing.{IsIdle, IsAtRest, IsGivingUp, IsGivenUp, KeepsCurrent}
 
 -- ---- at rest
 
 module _ {A : Type 0} (d : Held A) where
-  pub rest_seven : IsAtRest d → seven_of d ≡ at_rest (is_some (d.file Current Version)) (d.has Previous)
+  idle_seven : IsIdle d → seven_of d ≡ at_rest (is_some (d.file Current Version)) (d.has Previous)
+  idle_seven idle = λ k. record {
+    root = idle.root k;
+    current = is_some (d.file Current Version);
+    previous = d.has Previous;
+    previous_tmp = idle.no_tmp.upgrade k;
+    removed_tmp = idle.no_tmp.rollback k;
+    finalized_tmp = idle.no_tmp.finalize k;
+    last_checkpoint_tmp = idle.no_tmp.checkpoint k;
+  }
+
+  rest_seven : IsAtRest d → seven_of d ≡ at_rest (is_some (d.file Current Version)) (d.has Previous)
   rest_seven (inl normal) = let e = normal_seven (seven_of d) normal in e ∙ (λ k. at_rest (sym (ap (λ (s : Seven). s.current) e) k) (d.has Previous))
   rest_seven (inr fresh) = let e = fresh_seven (seven_of d) fresh in e ∙ (λ k. at_rest (sym (ap (λ (s : Seven). s.current) e) k) (sym (ap (λ (s : Seven). s.previous) e) k))
+
+  pub rest_idle : IsAtRest d → IsIdle d
+  rest_idle rest =
+      let e = rest_seven rest in
+      record {
+        root = λ k. (e k).root;
+        no_tmp = record { upgrade = λ k. (e k).previous_tmp; rollback = λ k. (e k).removed_tmp; finalize = λ k. (e k).finalized_tmp; checkpoint = λ k. (e k).last_checkpoint_tmp };
+      }
 
   at_version : (version : Bool) → seven_of d ≡ at_rest version false → IsAtRest d
   at_version true is = inl (ap table_of is ∙ table_at_rest false)
@@ -64,12 +83,12 @@ module _ {A : Type 0} (old : Held A) where
   pub giving_moved : IsGivingUp old moved
   giving_moved = record { root = refl; subs = moved_has; files = moved_file; previous = inr refl }
 
-  module _ (rest : IsAtRest old) where
+  module _ (idle : IsIdle old) where
     pub given_none : old.has Previous ≡ false → IsGivenUp old old
-    given_none none = record { giving = giving_refl; previous = none; tmp = λ k. (rest_seven old rest k).finalized_tmp }
+    given_none none = record { giving = giving_refl; previous = none; tmp = idle.no_tmp.finalize }
 
     pub renamed : old.has Previous ≡ true → (fresh : A) (add : A → List ℕ → A) → after fresh add (RenameSub Previous FinalizedTmp) old ≡ moved
-    renamed there fresh add = λ k. if there k && not ((rest_seven old rest k).finalized_tmp) then moved else old
+    renamed there fresh add = λ k. if there k && not (idle.no_tmp.finalize k) then moved else old
 
   removed_has : (s : Sub) → s ≢ Previous → s ≢ FinalizedTmp → (with_sub moved FinalizedTmp false (λ _. None)).has s ≡ old.has s
   removed_has Current a b = refl
@@ -102,13 +121,10 @@ giving_part old part is = record {
 
 -- ---- what serves meanwhile
 
-module _ (old d : Disk) (rest : IsAtRest old) where
-  abbrev version : Bool
-  version = is_some (old.file Current Version)
-
-  pub given_seven : IsGivingUp old d → d.has Previous ≡ false → seven_of d ≡ record (at_rest version false) { finalized_tmp = d.has FinalizedTmp }
+module _ (old d : Disk) (idle : IsIdle old) where
+  pub given_seven : IsGivingUp old d → d.has Previous ≡ false → seven_of d ≡ record (at_rest (is_some (old.file Current Version)) false) { finalized_tmp = d.has FinalizedTmp }
   given_seven is gone =
-      let e = rest_seven old rest in
+      let e = idle_seven old idle in
       λ k. record {
         root = (is.root ∙ (λ j. (e j).root)) k;
         current = is_some (is.files Current Version (λ x. cc) (λ x. cc) k);
@@ -118,6 +134,13 @@ module _ (old d : Disk) (rest : IsAtRest old) where
         finalized_tmp = d.has FinalizedTmp;
         last_checkpoint_tmp = (is.subs LastCheckpointTmp (λ x. cc) (λ x. cc) ∙ (λ j. (e j).last_checkpoint_tmp)) k;
       }
+
+  pub given_rest : IsGivenUp old d → IsAtRest d
+  given_rest is = at_version d (is_some (old.file Current Version)) (given_seven is.giving is.previous ∙ (λ k. record (at_rest (is_some (old.file Current Version)) false) { finalized_tmp = is.tmp k }))
+
+module _ (old d : Disk) (rest : IsAtRest old) where
+  abbrev version : Bool
+  version = is_some (old.file Current Version)
 
   old_current : (serving old ≡ if_there version Current)
   old_current = by_rest rest
@@ -142,10 +165,10 @@ module _ (old d : Disk) (rest : IsAtRest old) where
 
   keeps_given : (tmp : Bool) → d.has FinalizedTmp ≡ tmp → IsGivingUp old d → d.has Previous ≡ false → KeepsCurrent old d
   keeps_given true told is gone =
-      let seven = given_seven is gone ∙ (λ k. record (at_rest version false) { finalized_tmp = told k }) in
+      let seven = given_seven old d (rest_idle old rest) is gone ∙ (λ k. record (at_rest version false) { finalized_tmp = told k }) in
       keeps_by (in_finalize version) is seven refl (inr (ap table_of seven ∙ table_in_finalize version)) (seat_in_finalize version)
   keeps_given false told is gone =
-      let seven = given_seven is gone ∙ (λ k. record (at_rest version false) { finalized_tmp = told k }) in
+      let seven = given_seven old d (rest_idle old rest) is gone ∙ (λ k. record (at_rest version false) { finalized_tmp = told k }) in
       keeps_by (at_rest version false) is seven refl (inl (at_version d version seven)) (seat_by_version version)
 
   keeps_old : KeepsCurrent old old
@@ -154,15 +177,12 @@ module _ (old d : Disk) (rest : IsAtRest old) where
   pub giving_keeps : IsGivingUp old d → KeepsCurrent old d
   giving_keeps is = ⊎_elim (λ same. subst (KeepsCurrent old) (sym same) keeps_old) (λ gone. keeps_given (d.has FinalizedTmp) refl is gone) is.previous
 
-  pub given_rest : IsGivenUp old d → IsAtRest d
-  given_rest is = at_version d version (given_seven is.giving is.previous ∙ (λ k. record (at_rest version false) { finalized_tmp = is.tmp k }))
-
 -- ---- `current`
 
-module _ (old : Disk) (rest : IsAtRest old) (none : old.has Previous ≡ false) where
+module _ (old : Disk) (idle : IsIdle old) (none : old.has Previous ≡ false) where
   pub unversioned : FitsFresh (with_file old Current Version None)
   unversioned =
-      let e = rest_seven old rest in
+      let e = idle_seven old idle in
       ap table_of ((λ k. record (e k) { current = false; previous = none k })) ∙ table_fresh
 
 -- without VERSION a directory stays so while `current` is removed, and while `previous.checkpoint` is

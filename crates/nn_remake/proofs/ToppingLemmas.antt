@@ -30,7 +30,7 @@ use Rattle.nn_remake.specs.Published.{IsPublished, IsOnlyOf, ReadsIntact}
 use Rattle.nn_remake.specs.Clearing.{IsGivenUp, WasGivenUp}
 use Rattle.nn_remake.specs.Cutting.{IsCutting, IsCutDown, WasCutDown}
 use Rattle.nn_remake.specs.Topping.{KeptOrGivenUp, SavedAsAsked, IsGivingUpUnless, IsToppingUp, WasKeptOrGivenUp, WasToppedUp, IsBroughtTo}
-use Rattle.nn_remake.proofs.ClearingLemmas.{given_seven}
+use Rattle.nn_remake.proofs.ClearingLemmas.{given_seven, rest_idle}
 
 -- ---- the saved state
 
@@ -45,7 +45,7 @@ kept_asked {A} {saved} old mid (inl same) = subst (λ (x : Held A). SavedAsAsked
 kept_asked old mid (inr given) = inr given.1.previous
 
 pub given_normal : (old d : Disk) → IsIn Normal old → IsGivenUp old d → IsIn Normal d
-given_normal old d normal is = ap table_of (given_seven old d (inl normal) is.giving is.previous ∙ (λ k. record (at_rest (versioned k) false) { finalized_tmp = is.tmp k })) ∙ table_at_rest false
+given_normal old d normal is = ap table_of (given_seven old d (rest_idle old (inl normal)) is.giving is.previous ∙ (λ k. record (at_rest (versioned k) false) { finalized_tmp = is.tmp k })) ∙ table_at_rest false
   where
     versioned : is_some (old.file Current name.Version) ≡ true
     versioned = ap (λ (s : Seven). s.current) (normal_seven (seven_of old) normal)

@@ -8,11 +8,16 @@ use Rattle.nn_host.specs.Moments.{State, disk_at}
 use Rattle.nn_state.specs.declared.state.StorageState.TheVariants.{Normal, NotFormatted, CompleteFinalize}
 use Rattle.nn_state.specs.Seat.{serving, saved}
 use Rattle.nn_state.specs.Typed.{IsIn, FitsFresh}
-use Rattle.nn_state.specs.Recovery.{SameFolder}
+use Rattle.nn_state.specs.Recovery.{SameFolder, HasNoTmp}
 
 -- ---- the saved state
 
--- nothing is under way
+-- a root, and no temporary folder
+pub record IsIdle {A : Type 0} (d : Held A) : Type 0 where
+  pub root : d.root ≡ true
+  pub no_tmp : HasNoTmp d
+
+-- the same, and the table has a state for it: nothing is under way
 abbrev pub IsAtRest : {A : Type 0} → Held A → Type 0
 IsAtRest d = IsIn Normal d ⊎ IsIn NotFormatted d
 

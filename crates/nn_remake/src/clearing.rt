@@ -6,7 +6,7 @@ ghost use Rattle.nn_host.specs.Calls.{IsCounted};
 ghost use Rattle.nn_host.specs.Runs.{OnlyAt};
 ghost use Rattle.nn_state.specs.Typed.{FitsFresh, FitsSettled, dir_in};
 ghost use Rattle.nn_remake.specs.Made.{IsBare};
-ghost use Rattle.nn_remake.specs.Clearing.{IsAtRest, IsGivingUp, WasGivenUp, IsClearing};
+ghost use Rattle.nn_remake.specs.Clearing.{IsIdle, IsAtRest, IsGivingUp, WasGivenUp, IsClearing};
 
 use nn_base::{DirNo, FileName, Sub};
 use nn_host::{Failed, Host};
@@ -31,12 +31,14 @@ pub fn clear<H: Host>(host: &mut H, at: Settled) -> Result<Fresh, Stuck>
     }
 }
 
-fn clear_dir<H: Host>(host: &mut H, i: DirNo, has_previous: bool) -> Result<(), Failed>
+/// The same, of a directory by its number, whether it has a saved state or not: of one that has no temporary folder, though the table may
+/// call it inconsistent, since a saved state stands alone.
+pub fn clear_dir<H: Host>(host: &mut H, i: DirNo, has_previous: bool) -> Result<(), Failed>
     requires below { i.0 < (H.state host.old).count }
-    requires rest { H.told → IsAtRest (disk_at (H.state host.old) i.0) }
+    requires idle { H.told → IsIdle (disk_at (H.state host.old) i.0) }
     requires previous { H.told → (disk_at (H.state host.old) i.0).has Previous ≡ has_previous }
     ensures ok { H.told → OnOk result (IsBare (disk_at (H.state host.new) i.0)) }
-    ensures any_moment { OnlyAt H.told i.0 (H.state host.old) (H.state host.new) (IsClearing (disk_at (H.state host.old) i.0)) }
+    ensures any_moment { OnlyAt H.told i.0 (H.state host.old) (H.state host.new) (λ d. IsAtRest (disk_at (H.state host.old) i.0) → IsClearing (disk_at (H.state host.old) i.0) d) }
     ensures cause { IsCounted i.0 (H.state host.old) (H.state host.new) result }
 {
     give_up_previous(host, i, has_previous)?;
@@ -46,7 +48,7 @@ fn clear_dir<H: Host>(host: &mut H, i: DirNo, has_previous: bool) -> Result<(), 
 /// Gives up the saved state, if there is one.
 pub fn give_up_previous<H: Host>(host: &mut H, i: DirNo, has_previous: bool) -> Result<(), Failed>
     requires below { i.0 < (H.state host.old).count }
-    requires rest { H.told → IsAtRest (disk_at (H.state host.old) i.0) }
+    requires idle { H.told → IsIdle (disk_at (H.state host.old) i.0) }
     requires previous { H.told → (disk_at (H.state host.old) i.0).has Previous ≡ has_previous }
     ensures ok { H.told → OnOk result (WasGivenUp i.0 (H.state host.old) (H.state host.new)) }
     ensures any_moment { OnlyAt H.told i.0 (H.state host.old) (H.state host.new) (IsGivingUp (disk_at (H.state host.old) i.0)) }
@@ -61,7 +63,7 @@ pub fn give_up_previous<H: Host>(host: &mut H, i: DirNo, has_previous: bool) -> 
 
 fn give_up_current<H: Host>(host: &mut H, i: DirNo) -> Result<(), Failed>
     requires below { i.0 < (H.state host.old).count }
-    requires rest { H.told → IsAtRest (disk_at (H.state host.old) i.0) }
+    requires idle { H.told → IsIdle (disk_at (H.state host.old) i.0) }
     requires previous { H.told → (disk_at (H.state host.old) i.0).has Previous ≡ false }
     ensures ok { H.told → OnOk result (IsBare (disk_at (H.state host.new) i.0)) }
     ensures any_moment { OnlyAt H.told i.0 (H.state host.old) (H.state host.new) (λ d. FitsFresh d ⊎ (d ≡ disk_at (H.state host.old) i.0)) }
@@ -74,7 +76,7 @@ fn give_up_current<H: Host>(host: &mut H, i: DirNo) -> Result<(), Failed>
 // VERSION alone makes a directory formatted.
 fn unformat<H: Host>(host: &mut H, i: DirNo) -> Result<(), Failed>
     requires below { i.0 < (H.state host.old).count }
-    requires rest { H.told → IsAtRest (disk_at (H.state host.old) i.0) }
+    requires idle { H.told → IsIdle (disk_at (H.state host.old) i.0) }
     requires previous { H.told → (disk_at (H.state host.old) i.0).has Previous ≡ false }
     ensures ok { H.told → OnOk result (FitsFresh (disk_at (H.state host.new) i.0)) }
     ensures any_moment { OnlyAt H.told i.0 (H.state host.old) (H.state host.new) (λ d. FitsFresh d ⊎ (d ≡ disk_at (H.state host.old) i.0)) }

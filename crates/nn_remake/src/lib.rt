@@ -12,7 +12,7 @@ mod removing;
 mod staging;
 mod topping;
 
-pub use clearing::{clear, clear_unformatted};
+pub use clearing::{clear, clear_dir, clear_unformatted};
 pub use cutting::names_of;
 pub use fault::MakeFault;
 pub use making::make;

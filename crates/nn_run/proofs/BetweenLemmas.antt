@@ -54,16 +54,19 @@ module _ (version : Version) (list : ℕ → Namespace) (count : ℕ) (live hold
     led = inl (inr (sym (ap (λ r. r.ctime) between.lead), omega (arith, ap (λ r. r.last) between.lead)));
   }
 
-  live_counted : (i : ℕ) (of_run holder : Bool) → (holder ≡ true → (is_none book.saved || holders i) ≡ true) → i < count → live i ≡ true → IsKeptDisk shared of_run holder (m.dirs i).disk
-  live_counted i of_run holder held below e =
-      let lives = between.lives i below e in
-      let ends : EndsBetween version (holders i) (shared.saved version.ctime) (shared.ns version.ctime) last last (m.dirs i).disk =
-      subst (λ w. EndsBetween version (holders i) w (shared.ns version.ctime) last last (m.dirs i).disk) (sym between.saved)
-      (subst (λ f. EndsBetween version (holders i) book.saved f last last (m.dirs i).disk) (sym between.ns) lives.ends) in
+  -- a directory whose chain ends at the last id, if it may be a holder where it has a previous or nothing is saved
+  pub ends_counted : (d : Disk) (has of_run holder : Bool) → (holder ≡ true → (is_none book.saved || has) ≡ true) → EndsBetween version has book.saved list last last d → IsKeptDisk shared of_run holder d
+  ends_counted d has of_run holder held is =
+      let ends : EndsBetween version has (shared.saved version.ctime) (shared.ns version.ctime) last last d =
+      subst (λ w. EndsBetween version has w (shared.ns version.ctime) last last d) (sym between.saved)
+      (subst (λ f. EndsBetween version has book.saved f last last d) (sym between.ns) is) in
       let floor = inr (ap (λ r. r.ctime) between.floor, omega (arith, ap (λ r. r.last) between.floor)) in
       let lead = inr (ap (λ r. r.ctime) between.lead, omega (arith, ap (λ r. r.last) between.lead)) in
-      flight_is_kept shared version (holders i) last last (m.dirs i).disk of_run holder ends (room (holders i)) (λ counts. floor)
-      (λ h. (floor, lead, λ n low high. subst (Contains shared.window) (sym (whole_book (holders i) (shared.saved version.ctime) (shared.ns version.ctime n) (ap (λ w. is_none w || holders i) between.saved ∙ held h))) (there n low high)))
+      flight_is_kept shared version has last last d of_run holder ends (room has) (λ counts. floor)
+      (λ h. (floor, lead, λ n low high. subst (Contains shared.window) (sym (whole_book has (shared.saved version.ctime) (shared.ns version.ctime n) (ap (λ w. is_none w || has) between.saved ∙ held h))) (there n low high)))
+
+  live_counted : (i : ℕ) (of_run holder : Bool) → (holder ≡ true → (is_none book.saved || holders i) ≡ true) → i < count → live i ≡ true → IsKeptDisk shared of_run holder (m.dirs i).disk
+  live_counted i of_run holder held below e = ends_counted (m.dirs i).disk (holders i) of_run holder held (between.lives i below e).ends
 
   each_kept : (i : ℕ) → i < count → IsKeptDisk shared (live i) ((is_none book.saved || holders i) && live i) (m.dirs i).disk
   each_kept i below = elim (cases_Bool (live i)) [

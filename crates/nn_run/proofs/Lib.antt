@@ -1,9 +1,11 @@
 pub mod WindowLemmas
 pub mod StopLemmas
 pub mod LineLemmas
+pub mod BaseLemmas
 pub mod StepLemmas
 pub mod LoopLemmas
 pub mod OpeningLemmas
 pub mod BetweenLemmas
 pub mod FlightLemmas
 pub mod SyncLemmas
+pub mod RestoreLemmas

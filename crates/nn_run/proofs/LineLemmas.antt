@@ -1,6 +1,6 @@
 -- The commands of lines: one list after another, the Book that they come to, and that each has an answer.
 use Rattle.std.proofs.Common.{◌≡◌, ◌≢◌, ℕ, ◌<◌, Bool, true, false, if◌then◌else◌, List, [], ◌∷◌, ◌++◌, length, Ok, Err, Some, None, Option, Result, refl, sym, ◌∙◌, ap, arith}
-use Rattle.std.specs.Prelude.{All, codes}
+use Rattle.std.specs.Prelude.{All, codes, nat_lt}
 use Rattle.std.specs.List.{flat_map, join_with_byte}
 use Rattle.std.proofs.lemmas.List.{length-append}
 use Rattle.std.proofs.lemmas.List.Elements.{All-cons, All-nil}
@@ -8,7 +8,8 @@ use Rattle.nn_base.specs.Paths.{Bytes, Names}
 use Rattle.nn_ops.specs.declared.refusal.OpRefusal.{OpRefusal}
 use Rattle.nn_ops.specs.Step.{step}
 use Rattle.nn_script.specs.declared.answer.Answer.{Answer}
-use Rattle.nn_script.specs.declared.answer.Answer.TheVariants.{Done, Count, Refused, Later, Unread}
+use Rattle.nn_script.specs.declared.answer.Answer.TheVariants.{Done, Count, Refused, Later, NotRestored, Unread}
+use Rattle.nn_script.specs.declared.answer.Unrestored.TheVariants as unrestored
 use Rattle.nn_script.specs.declared.command.ScriptCommand.{ScriptCommand}
 use Rattle.nn_script.specs.declared.command.ScriptCommand.TheVariants as command
 use Rattle.nn_script.specs.declared.syntax.Syntax.{Syntax}
@@ -18,7 +19,7 @@ use Rattle.nn_script.specs.Lines.{has_no_answer}
 use Rattle.nn_script.specs.Reading.{reading_of, command_on}
 use Rattle.nn_script.specs.Spelling.{answer_text, answer_words, line_of, dir_lines}
 use Rattle.nn_script.specs.Answers.{change_text, list_text, list_refusal, lines_at, nodes_below}
-use Rattle.nn_run.specs.Running.{Running, Asked, Sight, reply_at, reply_read, reply_in, after_asked}
+use Rattle.nn_run.specs.Running.{Running, Restored, TakenBack, Missing, Inconsistent, Failed, Asked, Sight, restored_text, reply_at, reply_read, reply_in, after_asked, back_at}
 use Rattle.nn_run.specs.Window.{Answered, commands_of, last_book, CommandsAppend, LastIsReached, CommandsHaveText}
 
 -- a line without an answer has no command
@@ -28,7 +29,7 @@ read_none line e = rw e refl
 
 -- what a line comes to
 abbrev command_at : ℕ → Running → Asked → Answered
-command_at count run asked = record { text = (reply_at count run asked).text; book = (reply_at count run asked).after.book }
+command_at count run asked = record { text = (reply_at count run asked).text; book = (reply_at count run asked).after.book; back = back_at count asked }
 
 same_run : (count : ℕ) (run : Running) (asked : Asked) → has_no_answer asked.line ≡ true → (reply_at count run asked).after ≡ run
 same_run count run asked e = ap (λ r. (reply_read count run asked.sight r).after) (read_none asked.line e)
@@ -85,6 +86,13 @@ listed_some m path (Some why) = answer_some (Refused why)
 list_some : (m : Nodes) (path : Names) → list_text m path ≢ []
 list_some m path = listed_some m path (list_refusal m path)
 
+restored_some : (listed : Bool) (restored : Restored) → (if listed then restored_text restored else answer_text (NotRestored unrestored.NoSuchDir)) ≢ []
+restored_some true TakenBack = answer_some Done
+restored_some true Missing = answer_some (NotRestored unrestored.Missing)
+restored_some true Inconsistent = answer_some (NotRestored unrestored.Inconsistent)
+restored_some true Failed = answer_some (NotRestored unrestored.Failed)
+restored_some false restored = answer_some (NotRestored unrestored.NoSuchDir)
+
 command_some : (count : ℕ) (run : Running) (sight : Sight) (it : ScriptCommand) → (reply_in count run sight it).text ≢ []
 command_some count run sight (command.Namespace change) = change_some (step run.book.ns change run.now).refusal
 command_some count run sight (command.Clock time) = answer_some Done
@@ -93,7 +101,7 @@ command_some count run sight command.Dirs = some_behind (dir_lines sight.live co
 command_some count run sight command.Roll = answer_some Done
 command_some count run sight command.Checkpoint = answer_some Done
 command_some count run sight command.Finalize = answer_some Later
-command_some count run sight (command.Restore dir) = answer_some Later
+command_some count run sight (command.Restore dir) = restored_some (nat_lt dir count) sight.restored
 
 pub read_some : (count : ℕ) (run : Running) (sight : Sight) (line : Bytes) → has_no_answer line ≡ false → (reply_read count run sight (reading_of line)).text ≢ []
 unfolding reading_of

@@ -1,12 +1,13 @@
 -- A run goes on by one line more.
-use Rattle.std.proofs.Common.{◌≡◌, ℕ, Bool, true, false, List, [], ◌∷◌, ◌++◌, refl, sym, ◌∙◌, ap, subst, append_assoc}
-use Rattle.nn_host.specs.Moments.{State}
+use Rattle.std.proofs.Common.{◌≡◌, ℕ, Bool, true, false, List, [], ◌∷◌, ◌++◌, refl, sym, ◌∙◌, ap, subst, append_assoc, arith}
+use Rattle.nn_host.specs.Moments.{State, faults_at}
 use Rattle.nn_pick.specs.Opening.{Book, Opening}
 use Rattle.nn_run.specs.Running.{Running, Asked, after_asked}
-use Rattle.nn_run.specs.Window.{Answered, commands_of, last_book}
+use Rattle.nn_run.specs.Window.{Answered, commands_of, base_behind, base_since, last_book}
 use Rattle.nn_run.specs.Course.{RunAsked, opening_of, begun_book, first_of, course_of, RunKept}
 use Rattle.nn_run.specs.Loop.{GoesOnFrom, HasCome, NextIsKept}
 use Rattle.nn_run.proofs.LineLemmas.{commands_append, last_is_reached, commands_have_text}
+use Rattle.nn_run.proofs.BaseLemmas.{base_append, base_is_behind, opening_base}
 use Rattle.nn_run.proofs.StepLemmas.{step_goes_on}
 
 last_append : (book : Book) (first later : List Answered) → last_book book (first ++ later) ≡ last_book (last_book book first) later
@@ -20,6 +21,14 @@ opening_last wanted ctime opened = by_upgrade wanted.upgrade
     by_upgrade : (upgrade : Bool) → last_book opened.book (opening_of (record wanted { upgrade = upgrade }) ctime opened) ≡ begun_book (record wanted { upgrade = upgrade }) opened.book
     by_upgrade true = refl
     by_upgrade false = refl
+
+-- the counts behind the opening and the commands of lines are those behind the lines
+pub come_base : (wanted : RunAsked) (ctime : ℕ) (opened : Opening) (done : List Asked) (old : State) (i : ℕ)
+    → base_behind (λ j. faults_at old j) (opening_of wanted ctime opened ++ commands_of old.count (first_of wanted opened) done) i ≡ base_since old done i
+come_base wanted ctime opened done old i =
+    base_append (λ j. faults_at old j) (opening_of wanted ctime opened) (commands_of old.count (first_of wanted opened) done) i
+    ∙ ap (λ b. base_behind b (commands_of old.count (first_of wanted opened) done) i) (λ k j. opening_base (λ n. faults_at old n) wanted ctime opened j k)
+    ∙ base_is_behind old.count (λ j. faults_at old j) (first_of wanted opened) done i
 
 module _ (wanted : RunAsked) (ctime : ℕ) (opened : Opening) (ahead live holders : ℕ → Bool) (done : List Asked) (asked : Asked) (old s : State) (come : HasCome wanted ctime opened ahead live holders done old s) (later : List Asked) where
   abbrev first : Running
@@ -47,8 +56,8 @@ module _ (wanted : RunAsked) (ctime : ℕ) (opened : Opening) (ahead live holder
     texts = commands_have_text old.count behind later;
     book = last_is_reached old.count first done ∙ ap (λ b. last_book b (commands_of old.count first done)) (sym (opening_last wanted ctime opened)) ∙ sym (last_append opened.book opening (commands_of old.count first done));
     said = come.said;
-    grown = come.grown;
-    alive = come.alive;
+    based = λ i. let same = come_base wanted ctime opened done old i in (omega (arith, same, (come.based i).0), omega (arith, same, (come.based i).1));
+    alive = λ i below room few. let same = come_base wanted ctime opened done old i in come.alive i below (omega (arith, same, room)) (omega (arith, same, few));
     held = come.held;
   }
 

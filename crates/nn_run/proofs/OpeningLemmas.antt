@@ -1,16 +1,17 @@
 -- The moments of an opening are those of a run that has said nothing yet.
-use Rattle.std.proofs.Common.{◌≡◌, ◌≢◌, inl, inr, ℕ, suc, zero, ◌<◌, ◌≤◌, false, List, [], ◌∷◌, ◌++◌, length, take, drop, map, sym, ◌∙◌, ap, subst, arith}
+use Rattle.std.proofs.Common.{◌≡◌, ◌≢◌, inl, inr, ℕ, suc, zero, ◌<◌, ◌≤◌, true, false, ◌&&◌, List, [], ◌∷◌, ◌++◌, length, take, drop, map, sym, ◌∙◌, ap, subst, arith}
 use Rattle.std.specs.Prelude.{Contains}
 use Rattle.std.proofs.lemmas.List.{length-append, length-drop}
 use Rattle.std.proofs.lemmas.List.Elements.{Contains-append_left}
-use Rattle.nn_host.specs.Moments.{Moment, State}
+use Rattle.nn_host.specs.Moments.{Moment, State, faults_at}
 use Rattle.nn_host.proofs.RunsLemmas.{throughout_weaker, throughout_both}
 use Rattle.nn_host.specs.Runs.{OutAsIn}
 use Rattle.nn_pick.specs.Opening.{Book}
 use Rattle.nn_kept.specs.Laws.{IsPartOf, AllKept}
-use Rattle.nn_run.specs.Window.{begins_with, whole_in, Answered, text_of, books, window, said_since, is_of_run, is_held, has_started}
+use Rattle.nn_run.specs.Window.{begins_with, whole_in, Answered, text_of, books, window, said_since, base_behind, base_at, is_unfailed_since, is_of_run, is_held, has_started}
 use Rattle.nn_run.specs.Course.{Course, commands, run_window, run_at, held_at}
 use Rattle.nn_run.specs.Loop.{OpeningIsOfRun}
+use Rattle.nn_run.proofs.StepLemmas.{fewer_kept}
 use Rattle.nn_run.proofs.WindowLemmas.{nil_of, not_whole, not_begun, some_length}
 
 -- as long as nothing is said, the first two Books are in the window
@@ -39,9 +40,17 @@ module _ (course : Course) (a : Answered) (rest : List Answered) (old : State) (
       let whole = subst (λ o. Contains (window course.batch course.entry (o ++ course.script) []) b) (sym begins) here in
       subst (λ x. Contains (window course.batch course.entry (commands course) x) b) (sym nothing_said) whole
 
+  -- no directory was taken back yet
+  unmoved : (i : ℕ) → base_at (commands course) old m i ≡ faults_at old i
+  unmoved i = ap (λ k. base_behind (λ j. faults_at old j) (take k (commands course)) i) unanswered
+
   -- the directories of the opening are those of the run
-  all_so : (shared : _) → AllKept shared old.count (is_of_run course.chosen false old) (is_held course.ahead course.chosen false old) m → AllKept shared old.count (run_at course old m) (held_at course old m) m
-  all_so shared all = subst (λ started. AllKept shared old.count (is_of_run course.chosen started old) (is_held course.ahead course.chosen started old) m) (sym not_started) all
+  all_so : (shared : _) → AllKept shared old.count (is_of_run course.chosen false (λ i. faults_at old i)) (is_held course.ahead course.chosen false old) m → AllKept shared old.count (run_at course old m) (held_at course old m) m
+  all_so shared all =
+      let based : AllKept shared old.count (is_of_run course.chosen false (λ i. base_at (commands course) old m i)) (is_held course.ahead course.chosen false old) m = (
+      fewer_kept shared old.count (is_of_run course.chosen false (λ i. faults_at old i)) (is_held course.ahead course.chosen false old) (is_of_run course.chosen false (λ i. base_at (commands course) old m i))
+      (is_held course.ahead course.chosen false old) m all (λ i below e. subst (λ k. (course.chosen i && is_unfailed_since k (m.dirs i)) ≡ true) (unmoved i) e) (λ i below e. e)) in
+      subst (λ started. AllKept shared old.count (is_of_run course.chosen started (λ i. base_at (commands course) old m i)) (is_held course.ahead course.chosen started old) m) (sym not_started) based
 
 pub opening_is_of_run : OpeningIsOfRun
 opening_is_of_run course a rest old s begins some least silent kept = throughout_weaker (throughout_both kept silent.each) (λ t m both. elim both.0 [

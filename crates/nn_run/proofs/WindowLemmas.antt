@@ -11,7 +11,7 @@ use Rattle.nn_pick.specs.Opening.{Book}
 use Rattle.nn_kept.specs.Laws.{IsPartOf}
 use Rattle.nn_run.specs.Window.{Answered, text_of, begins_with, whole_in, books, window, WindowIsBehind, StepIsInWindow, AfterIsInWindow}
 
-if_true : {A : Type 0} (b : Bool) (x y : A) → b ≡ true → (if b then x else y) ≡ x
+pub if_true : {A : Type 0} (b : Bool) (x y : A) → b ≡ true → (if b then x else y) ≡ x
 if_true true x y e = refl
 if_true false x y e = absurd (cc e)
 
@@ -26,7 +26,7 @@ nil_of (x ∷ xs) e = absurd (omega (arith, e))
 begins_so : (text bytes : Bytes) → take (length text) bytes ≡ text → begins_with text bytes ≡ true
 begins_so text bytes e = (bytes_eq-Decides (take (length text) bytes) text).1 e
 
-one_whole : (a : Answered) (later : List Answered) (bytes : Bytes) → begins_with a.text bytes ≡ true → whole_in (a ∷ later) bytes ≡ suc (whole_in later (drop (length a.text) bytes))
+pub one_whole : (a : Answered) (later : List Answered) (bytes : Bytes) → begins_with a.text bytes ≡ true → whole_in (a ∷ later) bytes ≡ suc (whole_in later (drop (length a.text) bytes))
 one_whole a later bytes e = if_true (begins_with a.text bytes) (suc (whole_in later (drop (length a.text) bytes))) 0 e
 
 pub not_whole : (a : Answered) (later : List Answered) (bytes : Bytes) → begins_with a.text bytes ≡ false → whole_in (a ∷ later) bytes ≡ 0
@@ -59,7 +59,7 @@ pub entry_in_window : (batch : ℕ) (book : Book) (later : List Answered) → Al
 entry_in_window batch book later all = λ b there. subst (λ k. Contains (take (suc batch) (drop k (books book later))) b) (sym (none_whole later all)) (Contains-append_left (book ∷ []) (take batch (map (λ a. a.book) later)) b there)
 
 -- behind a front of a text nothing is left
-past_front : (n : ℕ) (text : Bytes) → drop (length text) (take n text) ≡ []
+pub past_front : (n : ℕ) (text : Bytes) → drop (length text) (take n text) ≡ []
 past_front n text = nil_of (drop (length text) (take n text)) (omega (arith, length-drop (length text) (take n text), length-take n text))
 
 pub step_in_window : StepIsInWindow

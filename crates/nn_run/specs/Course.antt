@@ -1,5 +1,5 @@
 -- The course of a run: how it begins by what its directories hold, its commands, and what each stop leaves.
-use Rattle.std.specs.Prelude.{◌≡◌, ◌≢◌, ◌⊎◌, ℕ, ◌+◌, ◌<◌, max, Bool, true, List, [], ◌∷◌, ◌++◌, codes, Some, if◌then◌else◌}
+use Rattle.std.specs.Prelude.{◌≡◌, ◌≢◌, ◌⊎◌, ℕ, ◌+◌, ◌<◌, max, Bool, true, List, [], ◌∷◌, ◌++◌, codes, Some, None, if◌then◌else◌}
 use Rattle.std.specs.Fmt.{decimal}
 use Rattle.nn_base.specs.Paths.{Bytes}
 use Rattle.nn_host.specs.Disk.{Reads, Settle, disk_after}
@@ -16,7 +16,7 @@ use Rattle.nn_pick.specs.Opening.{Book, Opening}
 use Rattle.nn_kept.specs.Laws.{KeptInto, SomeCounts, OpenInto}
 use Rattle.nn_script.specs.Spelling.{line_of}
 use Rattle.nn_run.specs.Running.{Running, Asked}
-use Rattle.nn_run.specs.Window.{Answered, commands_of, text_of, whole_in, said_since, window_at, is_of_run, is_held, has_started}
+use Rattle.nn_run.specs.Window.{Answered, commands_of, text_of, whole_in, said_since, window_at, base_at, is_of_run, is_held, has_started}
 
 -- ---- how a run begins
 
@@ -46,8 +46,8 @@ upgraded_line ctime = line_of (codes "upgraded" ∷ decimal ctime ∷ [])
 -- what it says first: that it upgraded, to the cTime after this one, and that it started; this counts as a command that changes nothing
 abbrev pub opening_of : RunAsked → ℕ → Opening → List Answered
 opening_of asked ctime opened =
-    (if asked.upgrade then record { text = upgraded_line (max asked.at (ctime + 1)); book = begun_book asked opened.book } ∷ [] else [])
-    ++ record { text = started_line opened.last; book = begun_book asked opened.book } ∷ []
+    (if asked.upgrade then record { text = upgraded_line (max asked.at (ctime + 1)); book = begun_book asked opened.book; back = None } ∷ [] else [])
+    ++ record { text = started_line opened.last; book = begun_book asked opened.book; back = None } ∷ []
 
 -- the Book at entry, what is said first, the commands of the script, and which directories were chosen and had a saved state ahead
 pub record Course : Type 0 where
@@ -93,7 +93,7 @@ IsAsAtEntry old = EachDir (λ i d. (d.disk ≡ disk_at old i) ⊎ (d.disk ≡ di
 
 -- by the counts and the bytes of a moment, which directories are of the run, and which of them are holders
 abbrev pub run_at : Course → State → Moment → ℕ → Dir → Bool
-run_at course old m = is_of_run course.chosen (has_started course.opening old m) old
+run_at course old m = is_of_run course.chosen (has_started course.opening old m) (λ i. base_at (commands course) old m i)
 
 abbrev pub held_at : Course → State → Moment → ℕ → Dir → Bool
 held_at course old m = is_held course.ahead course.chosen (has_started course.opening old m) old

@@ -12,7 +12,7 @@ use Rattle.nn_pick.specs.Refusing.{spent_from}
 use Rattle.nn_pick.specs.Opening.{Book}
 use Rattle.nn_kept.specs.Ends.{EndsBetween}
 use Rattle.nn_script.specs.Lines.{has_no_answer}
-use Rattle.nn_run.specs.Running.{Running, Asked, reply_at}
+use Rattle.nn_run.specs.Running.{Running, Asked, reply_at, back_at, is_back}
 use Rattle.nn_run.specs.Steps.{BetweenLines, StepKept}
 
 -- a directory with nothing under way, of which each fair stop leaves a chain that ends from lo to hi
@@ -48,6 +48,10 @@ pub record LeadsTo (list : ℕ → Namespace) (book after : Book) (last new_last
 abbrev pub OnlySays : Type 0 → Bytes → State → State → Type 0
 OnlySays told text old new = Throughout told old new (λ m. (m.dirs ≡ old.now.dirs) × (n : ℕ) × (m.said ≡ old.now.said ++ take n text))
 
+-- a directory that the line took back is one of these
+abbrev pub IsBackIn : ℕ → (ℕ → Bool) → Asked → Type 0
+IsBackIn count live asked = (i : ℕ) → i < count → is_back (back_at count asked) i ≡ true → live i ≡ true
+
 -- at each moment no count has fallen since
 abbrev pub CountsRise : Type 0 → State → State → Type 0
 CountsRise told old new = Throughout told old new (λ m. (j : ℕ) → faults_at old j ≤ (m.dirs j).faults)
@@ -58,7 +62,7 @@ CountsRise told old new = Throughout told old new (λ m. (j : ℕ) → faults_at
 abbrev pub SayingIsKept : Type 0
 SayingIsKept = (version : Version) (list : ℕ → Namespace) (count : ℕ) (live : ℕ → Bool) (run : Running) (asked : Asked) (last : ℕ) (old new : State)
     → BetweenLines version list count live (λ i. false) run.book last old.now → run.book.saved ≡ None → has_no_answer asked.line ≡ false → (reply_at count run asked).after.book ≡ run.book
-    → OnlySays (Unit {0}) (reply_at count run asked).text old new
+    → IsBackIn count live asked → OnlySays (Unit {0}) (reply_at count run asked).text old new
     → StepKept (Unit {0}) count run live (λ i. true) asked old new × BetweenLines version list count live (λ i. false) run.book last new.now
 
 -- records of a line, or marks of segments alone, are synced in the live directories, and then it is answered
@@ -67,5 +71,5 @@ SyncingIsKept = (version : Version) (list : ℕ → Namespace) (count : ℕ) (li
     → BetweenLines version list count live (λ i. false) run.book last old.now → has_no_answer asked.line ≡ false
     → LeadsTo list run.book (reply_at count run asked).after.book last after
     → Flown (Unit {0}) version list live live_after last after old mid → Unspoken (Unit {0}) old mid → CountsRise (Unit {0}) old mid
-    → OnlySays (Unit {0}) (reply_at count run asked).text mid new
+    → IsBackIn count live_after asked → OnlySays (Unit {0}) (reply_at count run asked).text mid new
     → StepKept (Unit {0}) count run live (λ i. true) asked old new × BetweenLines version list count live_after (λ i. false) (reply_at count run asked).after.book after new.now

@@ -3,4 +3,5 @@ pub mod Window
 pub mod Course
 pub mod Steps
 pub mod Flights
+pub mod Restoring
 pub mod Loop

@@ -5,11 +5,19 @@ use Rattle.nn_host.specs.Moments.{State, faults_at}
 use Rattle.nn_host.specs.Runs.{Unspoken}
 use Rattle.nn_pick.specs.Opening.{Opening}
 use Rattle.nn_run.specs.Running.{Running, Asked, after_asked}
-use Rattle.nn_run.specs.Window.{Answered, commands_of, text_of, last_book}
+use Rattle.nn_run.specs.Window.{Answered, commands_of, text_of, base_behind, base_since, last_book}
 use Rattle.nn_run.specs.Course.{RunAsked, Course, commands, first_of, answers_of, course_of, RunKept}
 use Rattle.nn_run.specs.Steps.{OpeningKept, StepKept}
 
 -- ---- a step carries a run on
+
+-- these counts lie between those of the two states
+abbrev pub AreBased : State → State → (ℕ → ℕ) → Type 0
+AreBased old s base = (i : ℕ) → (faults_at old i ≤ base i) × (base i ≤ faults_at s i)
+
+-- live are those listed on which no call failed since these counts
+abbrev pub AreAlive : ℕ → (ℕ → Bool) → State → (ℕ → ℕ) → Type 0
+AreAlive count live s base = (i : ℕ) → i < count → base i < 2 ^ 64 - 1 → faults_at s i ≤ base i → live i ≡ true
 
 -- a run that began at old has come to s with these commands, and goes on with this line
 pub record GoesOnFrom (course : Course) (run : Running) (live holders : ℕ → Bool) (before later : List Answered) (asked : Asked) (old s : State) : Type 0 where
@@ -18,8 +26,8 @@ pub record GoesOnFrom (course : Course) (run : Running) (live holders : ℕ → 
   pub texts : All (λ other. other.text ≢ []) later
   pub book : run.book ≡ last_book course.entry before
   pub said : s.now.said ≡ old.now.said ++ text_of before
-  pub grown : (i : ℕ) → faults_at old i ≤ faults_at s i
-  pub alive : (i : ℕ) → i < old.count → faults_at s i ≡ faults_at old i → faults_at old i < 2 ^ 64 - 1 → live i ≡ true
+  pub based : AreBased old s (λ i. base_behind (λ j. faults_at old j) before i)
+  pub alive : AreAlive old.count live s (λ i. base_behind (λ j. faults_at old j) before i)
   pub held : (i : ℕ) → i < old.count → course.ahead i ≡ true → faults_at s i ≡ faults_at old i → holders i ≡ true
 
 abbrev pub StepGoesOn : Type 0
@@ -30,8 +38,8 @@ StepGoesOn = (course : Course) (run : Running) (live holders : ℕ → Bool) (be
 pub record HasCome (asked : RunAsked) (ctime : ℕ) (opened : Opening) (ahead live holders : ℕ → Bool) (done : List Asked) (old s : State) : Type 0 where
   pub batch : 1 ≤ asked.batch
   pub said : s.now.said ≡ old.now.said ++ answers_of asked old.count ctime opened done
-  pub grown : (i : ℕ) → faults_at old i ≤ faults_at s i
-  pub alive : (i : ℕ) → i < old.count → faults_at s i ≡ faults_at old i → faults_at old i < 2 ^ 64 - 1 → live i ≡ true
+  pub based : AreBased old s (λ i. base_since old done i)
+  pub alive : AreAlive old.count live s (λ i. base_since old done i)
   pub held : (i : ℕ) → i < old.count → ahead i ≡ true → faults_at s i ≡ faults_at old i → holders i ≡ true
 
 -- Whatever will be seen at the lines to come, each moment was kept so far.

@@ -1,5 +1,5 @@
 -- Which Books directories may open to, by the bytes said; and which directories are of the run, by their counts.
-use Rattle.std.specs.Prelude.{◌≡◌, ◌≢◌, All, ℕ, suc, ◌-◌, ◌^◌, ◌≤◌, Bool, ◌&&◌, ◌||◌, nat_le, nat_lt, List, [], ◌∷◌, ◌++◌, length, take, drop, map, if◌then◌else◌}
+use Rattle.std.specs.Prelude.{◌≡◌, ◌≢◌, All, ℕ, suc, ◌-◌, ◌^◌, ◌≤◌, Bool, ◌&&◌, ◌||◌, nat_le, nat_lt, Option, List, [], ◌∷◌, ◌++◌, length, take, drop, map, if◌then◌else◌}
 use Rattle.std.specs.List.{flat_map}
 use Rattle.std.specs.Str.{bytes_eq}
 use Rattle.nn_base.specs.Paths.{Bytes}
@@ -7,21 +7,22 @@ use Rattle.nn_host.specs.Moments.{Dir, Moment, State, faults_at}
 use Rattle.nn_pick.specs.Opening.{Book}
 use Rattle.nn_kept.specs.Laws.{IsPartOf}
 use Rattle.nn_script.specs.Lines.{has_no_answer}
-use Rattle.nn_run.specs.Running.{Running, Asked, reply_at, after_asked}
+use Rattle.nn_run.specs.Running.{Running, Asked, Back, reply_at, after_asked, back_at, base_by, base_after}
 
 -- ---- the window
 
--- a command: its answer, and the Book after it
+-- a command: its answer, the Book after it, and the directory that it took back
 pub record Answered : Type 0 where
   pub text : Bytes
   pub book : Book
+  pub back : Option Back
 
 -- the commands that these lines are: those lines that have an answer, taken or refused or without a reading
 abbrev pub commands_of : ℕ → Running → List Asked → List Answered
 commands_of count run [] = []
 commands_of count run (asked ∷ later) =
     if has_no_answer asked.line then commands_of count run later
-    else record { text = (reply_at count run asked).text; book = (reply_at count run asked).after.book } ∷ commands_of count (reply_at count run asked).after later
+    else record { text = (reply_at count run asked).text; book = (reply_at count run asked).after.book; back = back_at count asked } ∷ commands_of count (reply_at count run asked).after later
 
 -- all that is said to them
 abbrev pub text_of : List Answered → Bytes
@@ -53,17 +54,34 @@ window_at batch book commands old m = window batch book commands (said_since old
 
 -- ---- the directories of the run
 
--- no call on it failed since this state, at which its count was below its last value
+-- no call on it failed since this count, which was below its last value
+abbrev pub is_unfailed_since : ℕ → Dir → Bool
+is_unfailed_since count d = nat_lt count (2 ^ 64 - 1) && nat_le d.faults count
+
+-- no call on it failed since this state
 abbrev pub is_unfailed : State → ℕ → Dir → Bool
-is_unfailed old i d = nat_lt (faults_at old i) (2 ^ 64 - 1) && nat_le d.faults (faults_at old i)
+is_unfailed old i d = is_unfailed_since (faults_at old i) d
 
--- these, or once the run has started all that are listed, on which no call failed
-abbrev pub is_of_run : (ℕ → Bool) → Bool → State → ℕ → Dir → Bool
-is_of_run chosen started old i d = (started || chosen i) && is_unfailed old i d
+-- the counts from which on directories are of the run, behind these commands
+abbrev pub base_behind : (ℕ → ℕ) → List Answered → ℕ → ℕ
+base_behind base [] i = base i
+base_behind base (a ∷ later) i = base_behind (λ j. base_by base a.back j) later i
 
--- the holders: those of them that had a saved state ahead
+-- the counts from which on they are of a run that began at this state, behind these lines
+abbrev pub base_since : State → List Asked → ℕ → ℕ
+base_since old lines i = base_after old.count (λ j. faults_at old j) lines i
+
+-- and at a moment: behind those commands whose whole answer was said
+abbrev pub base_at : List Answered → State → Moment → ℕ → ℕ
+base_at commands old m i = base_behind (λ j. faults_at old j) (take (whole_in commands (said_since old m)) commands) i
+
+-- these, or once the run has started all that are listed, on which no call failed since these counts
+abbrev pub is_of_run : (ℕ → Bool) → Bool → (ℕ → ℕ) → ℕ → Dir → Bool
+is_of_run chosen started base i d = (started || chosen i) && is_unfailed_since (base i) d
+
+-- the holders: those that had a saved state ahead, and on which no call failed since this state; one that was taken back has no saved part
 abbrev pub is_held : (ℕ → Bool) → (ℕ → Bool) → Bool → State → ℕ → Dir → Bool
-is_held ahead chosen started old i d = ahead i && is_of_run chosen started old i d
+is_held ahead chosen started old i d = ahead i && ((started || chosen i) && is_unfailed old i d)
 
 -- all of the opening was said by this moment
 abbrev pub has_started : List Answered → State → Moment → Bool
@@ -99,3 +117,7 @@ LastIsReached = (count : ℕ) (run : Running) (lines : List Asked) → (after_as
 -- each command has an answer
 abbrev pub CommandsHaveText : Type 0
 CommandsHaveText = (count : ℕ) (run : Running) (lines : List Asked) → All (λ a. a.text ≢ []) (commands_of count run lines)
+
+-- behind the commands of lines the counts are those behind the lines
+abbrev pub BaseIsBehind : Type 0
+BaseIsBehind = (count : ℕ) (base : ℕ → ℕ) (run : Running) (lines : List Asked) (i : ℕ) → base_behind base (commands_of count run lines) i ≡ base_after count base lines i

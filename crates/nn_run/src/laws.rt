@@ -1,8 +1,9 @@
 // What follows from the definitions of a run alone, for the calls that make one: no call does anything here.
-ghost use Rattle.nn_run.specs.Window.{WindowIsBehind, StepIsInWindow, AfterIsInWindow, CommandsAppend, LastIsReached, CommandsHaveText};
+ghost use Rattle.nn_run.specs.Window.{WindowIsBehind, StepIsInWindow, AfterIsInWindow, CommandsAppend, LastIsReached, CommandsHaveText, BaseIsBehind};
 ghost use Rattle.nn_run.specs.Course.{RunKeptStops};
 ghost use Rattle.nn_run.specs.Steps.{BetweenIsKept};
 ghost use Rattle.nn_run.specs.Flights.{SayingIsKept, SyncingIsKept};
+ghost use Rattle.nn_run.specs.Restoring.{EmptyingIsKept, RestoringIsKept};
 ghost use Rattle.nn_run.specs.Loop.{StepGoesOn, NextIsKept, OpeningIsOfRun};
 
 /// The window over some commands, once all of the first are said, is that over the others.
@@ -35,6 +36,11 @@ pub fn each_command_has_an_answer()
     ensures { CommandsHaveText }
 {}
 
+/// The counts from which on directories are of a run are the same behind lines and behind their commands.
+pub fn the_counts_are_behind_the_commands()
+    ensures { BaseIsBehind }
+{}
+
 /// Between two lines each directory is kept, and the live ones are of the run.
 pub fn between_two_lines_all_are_kept()
     ensures { BetweenIsKept }
@@ -49,6 +55,18 @@ pub fn a_line_that_changes_nothing_is_kept()
 /// saved; and what is to hold between two lines holds behind it, with the Book after it.
 pub fn a_line_that_is_synced_is_kept()
     ensures { SyncingIsKept }
+{}
+
+/// A line by which a dropped directory is emptied, and no more, is kept while that is done and answered, and so is what was kept
+/// before it.
+pub fn a_directory_that_is_emptied_is_kept()
+    ensures { EmptyingIsKept }
+{}
+
+/// A line by which a dropped directory is taken back, or would be but for a failed call, is kept at each moment, where nothing is
+/// saved; and what is to hold between two lines holds behind it, once a segment was begun.
+pub fn a_line_that_restores_is_kept()
+    ensures { RestoringIsKept }
 {}
 
 /// Each moment of an opening that says nothing is one of the run that begins with it.

@@ -11,7 +11,9 @@ use Rattle.nn_ops.specs.declared.refusal.OpRefusal.TheVariants as refusal
 use Rattle.nn_script.specs.declared.syntax.Syntax.{Syntax}
 use Rattle.nn_script.specs.declared.syntax.Syntax.TheVariants as syntax
 use Rattle.nn_script.specs.declared.answer.Answer.{Answer}
-use Rattle.nn_script.specs.declared.answer.Answer.TheVariants.{Done, Count, Refused, Dry, Later, Unread}
+use Rattle.nn_script.specs.declared.answer.Answer.TheVariants.{Done, Count, Refused, Dry, Later, NotRestored, Unread}
+use Rattle.nn_script.specs.declared.answer.Unrestored.{Unrestored}
+use Rattle.nn_script.specs.declared.answer.Unrestored.TheVariants as unrestored
 
 -- words with a space between each two, and a newline
 abbrev pub line_of : List Bytes → Bytes
@@ -49,6 +51,12 @@ refusal_word refusal.Quota = codes "quota"
 refusal_word refusal.Limit = codes "limit"
 refusal_word refusal.Memory = []
 
+abbrev pub unrestored_word : Unrestored → Bytes
+unrestored_word unrestored.NoSuchDir = codes "no-such-dir"
+unrestored_word unrestored.Missing = codes "missing"
+unrestored_word unrestored.Inconsistent = codes "inconsistent"
+unrestored_word unrestored.Failed = codes "failed"
+
 abbrev pub path_word : PathFault → Bytes
 path_word path.Empty = codes "empty"
 path_word path.Relative = codes "relative"
@@ -78,6 +86,7 @@ answer_words (Count count) = codes "ok" ∷ decimal count ∷ []
 answer_words (Refused refusal) = codes "refused" ∷ refusal_word refusal ∷ []
 answer_words Dry = codes "refused" ∷ codes "dry" ∷ []
 answer_words Later = codes "refused" ∷ codes "later" ∷ []
+answer_words (NotRestored why) = codes "refused" ∷ unrestored_word why ∷ []
 answer_words (Unread fault) = codes "syntax" ∷ syntax_words fault
 
 -- want of memory is never said
@@ -87,6 +96,7 @@ IsSaid (Count count) = Unit {0}
 IsSaid (Refused why) = why ≢ refusal.Memory
 IsSaid Dry = Unit {0}
 IsSaid Later = Unit {0}
+IsSaid (NotRestored why) = Unit {0}
 IsSaid (Unread fault) = (fault ≢ syntax.Memory) × (fault ≢ syntax.Path path.Memory)
 
 abbrev pub answer_text : Answer → Bytes

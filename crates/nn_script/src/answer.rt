@@ -1,7 +1,7 @@
 // What a line is answered.
 ghost use Rattle.std.specs.Prelude.{◌≡◌, ◌≤◌, ◌+◌, ◌++◌, length, vec_len, vec_capacity};
 ghost use Rattle.nn_script.specs.Spelling.{answer_text, spaced, syntax_words};
-ghost use Rattle.nn_script.specs.Spelling.{refusal_word, path_word, IsSaid, max_answer};
+ghost use Rattle.nn_script.specs.Spelling.{refusal_word, path_word, unrestored_word, IsSaid, max_answer};
 
 use crate::Syntax;
 use crate::append::{put, put_number, put_word};
@@ -25,8 +25,23 @@ pub enum Answer {
     Dry,
     /// `refused later`: a run can't do this to its directories yet
     Later,
+    /// `refused WORD`: no directory is taken back, and none becomes live
+    NotRestored(Unrestored),
     /// `syntax WORD`: the line says no command. It is never for want of memory.
     Unread(Syntax),
+}
+
+/// Why a line `restore` takes no directory back.
+#[derive(Clone, Copy, Debug, PartialEq, Eq)]
+pub enum Unrestored {
+    /// `no-such-dir`: its number isn't below the count of directories
+    NoSuchDir,
+    /// `missing`: it has no usable root
+    Missing,
+    /// `inconsistent`: its files contradict each other, as the table of analyzeStorage says
+    Inconsistent,
+    /// `failed`: a call on it failed, and it stays dropped
+    Failed,
 }
 
 impl Answer {
@@ -50,6 +65,10 @@ impl Answer {
             }
             Answer::Dry => put(b"refused dry", out),
             Answer::Later => put(b"refused later", out),
+            Answer::NotRestored(why) => {
+                put(b"refused", out);
+                put_word(unrestored_word(why).as_bytes(), out);
+            }
             Answer::Unread(fault) => {
                 put(b"syntax", out);
                 put_fault(fault, out);
@@ -94,6 +113,18 @@ fn path_word(fault: PathFault) -> &'static str
         PathFault::LongName => "long-name",
         PathFault::Deep => "deep",
         PathFault::Memory => "",
+    }
+}
+
+fn unrestored_word(why: Unrestored) -> &'static str
+    ensures word { result.now ≡ unrestored_word why }
+    ensures short { length result.now ≤ 12 }
+{
+    match why {
+        Unrestored::NoSuchDir => "no-such-dir",
+        Unrestored::Missing => "missing",
+        Unrestored::Inconsistent => "inconsistent",
+        Unrestored::Failed => "failed",
     }
 }
 

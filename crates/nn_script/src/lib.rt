@@ -15,7 +15,7 @@ mod syntax;
 mod verb;
 mod words;
 
-pub use answer::{Answer, MAX_ANSWER};
+pub use answer::{Answer, MAX_ANSWER, Unrestored};
 pub use command::ScriptCommand;
 pub use dirs::{MAX_DIR_LINE, dir_line};
 pub use escape::escapes_read_back;

@@ -1,5 +1,5 @@
 -- The end of a run behind all of its lines: what is known of it.
-use Rattle.std.proofs.Common.{◌≡◌, inl, inr, ℕ, ◌<◌, Bool, true, false, List, [], ◌∷◌, ◌++◌, length, take, Ok, Err, None, Some, Option, Result, refl, sym, ◌∙◌, ap, subst, arith}
+use Rattle.std.proofs.Common.{◌≡◌, inl, inr, ℕ, ◌<◌, ◌≤◌, Bool, true, false, List, [], ◌∷◌, ◌++◌, length, take, Ok, Err, None, Some, Option, Result, refl, sym, ◌∙◌, ap, subst, arith}
 use Rattle.std.proofs.lemmas.List.{append-nil}
 use Rattle.nn_base.specs.DirSets.{has}
 use Rattle.nn_base.specs.declared.sub.Sub.TheVariants.{Current}
@@ -15,21 +15,23 @@ use Rattle.nn_pick.specs.Opening.{Book, Opening, Opens}
 use Rattle.nn_kept.specs.Laws.{KeptInto}
 use Rattle.nn_journal.specs.declared.journal.JournalSet.{JournalSet}
 use Rattle.nn_run.specs.Running.{Running, Asked, SeeLive}
+use Rattle.nn_run.specs.Window.{base_since}
 use Rattle.nn_run.specs.Course.{dirs_of, answers_of, course_of, RunKept}
 use Rattle.nn_run.specs.Steps.{BetweenLines, is_of_step}
 use Rattle.nn_run.proofs.SyncLemmas.{between_same}
 use Rattle.nn_whole.specs.Counted.{HasSeen, SeenWithin}
 use Rattle.nn_whole.specs.Ended.{book_after}
 use Rattle.nn_whole.specs.Served.{SeenTruly, Serving}
-use Rattle.nn_whole.proofs.CountedLemmas.{next_is_counted, live_by_count, step_narrows}
+use Rattle.nn_whole.proofs.CountedLemmas.{next_is_counted, live_by_count, none_narrows}
 use Rattle.nn_whole.proofs.EndedLemmas.{ended_opens}
 use Rattle.nn_whole.proofs.LeavingLemmas.{more_is_said, ending_is_kept}
 use Rattle.nn_core.specs.Events.{HasEnded}
 use Rattle.nn_core.specs.Standing.{unsaved, HasIds}
 use Rattle.nn_serve.specs.declared.ending.RunEnd.TheVariants.{Ended, NoneLeft}
 use Rattle.nn_serve.specs.Ended.{run_status}
-use Rattle.nn_serve.specs.Ran.{asked_at, BeginsSoundly, LeavesLast, AsItStarts, NoneFailed, StartsAll, SomeLeft}
+use Rattle.nn_serve.specs.Ran.{asked_at, BeginsSoundly, LeavesLast, AsItStarts, NoneFailed, StartsAll, SomeLeft, CausedBy}
 use Rattle.nn_serve.specs.Serving.{IsServing, EndsSo}
+use Rattle.nn_serve.specs.Tried.{TriedTruly}
 use Rattle.nn_serve.proofs.SinceLemmas.{said_of, speaks_whole, goes_on, never_refused, all_of, step_counts, none_live, said_here, answers_here, kept_here, first_long, opening_on, starts_on, counted_once}
 
 module _ {told : Type 0} (at count : ℕ) (version : Version) (ns : Namespace) (time : ℕ) (journal : JournalSet) (seen : List Asked) (old s : State) (serving : IsServing told at count version ns time journal seen old s) where
@@ -57,6 +59,9 @@ module _ {told : Type 0} (at count : ℕ) (version : Version) (ns : Namespace) (
   module _ {E : Type 0} (after : JournalSet) (new : State) (ids : told → BeginsSoundly old → HasIds journal) where
     ended_sees : (result : Result (Unit {0}) E) → HasEnded told count version ns journal after s new result → HasSeen (has after.live) seen old new
     ended_sees result ended = next_is_counted (has journal.live) (has after.live) seen old s new serving.sees (step_counts journal after s new ended.went.counted)
+
+    ended_rise : (result : Result (Unit {0}) E) → HasEnded told count version ns journal after s new result → (i : ℕ) → faults_at old i ≤ faults_at new i
+    ended_rise result ended i = let based = (ended_sees result ended).based i in omega (arith, based.0, based.1)
 
     ended_kept : {result : Result (Unit {0}) E} → HasEnded told count version ns journal after s new result → (t : told) (begins : BeginsSoundly old) (ahead : ℕ → Bool) (rest : List Asked)
         → RunKept (Unit {0}) (course_of (asked_at at) old.count begins.sound.opens.version.ctime begins.sound.opened (seen ++ rest) ahead) old new
@@ -93,32 +98,29 @@ module _ {told : Type 0} (at count : ℕ) (version : Version) (ns : Namespace) (
         (more_is_said (asked_at at) opens.version.ctime opened seen [] old s new come.said come.seen
         (throughout_told (λ (u : Unit {0}). t) (throughout_weaker ended.went.quiet.each (λ t m is. (0, is.said ∙ sym (append-nil s.now.said))))))
 
-    -- who is live in the end has not failed in the run
-    live_same : {result : Result (Unit {0}) E} → HasEnded told count version ns journal after s new result → (i : ℕ) → has after.live i ≡ true → (i < old.count) × (faults_at new i ≡ faults_at old i)
+    -- who is live in the end has not failed since it is of the run
+    live_same : {result : Result (Unit {0}) E} → HasEnded told count version ns journal after s new result → (i : ℕ) → has after.live i ≡ true → (i < old.count) × (faults_at new i ≡ base_since old seen i)
     live_same {result} ended i e =
-        let was = step_narrows (has journal.live) (has after.live) s new (step_counts journal after s new ended.went.counted) i e in
+        let was = none_narrows (has journal.live) (has after.live) s new (step_counts journal after s new ended.went.counted) i e in
         let below : i < old.count = subst (λ (c : ℕ). i < c) (sym serving.listed) (serving.ready.below i was.0) in
-        elim ((ended_sees result ended).counts.each i below) [
-          | inl is ↦ (below, is.1)
-          | inr gone ↦ absurd (let apart = sym gone.0 ∙ e in cc)
-        ]
+        (below, (ended_sees result ended).same i below e)
 
     -- what it leaves, as long as the directories are so
     leaves_last : {result : Result (Unit {0}) E} → HasEnded told count version ns journal after s new result → IsLawful new → (t : told) (begins : BeginsSoundly old)
-        → LeavesLast (asked_at at) begins.sound.opens.version.ctime begins.sound.opened seen old new
+        → LeavesLast (asked_at at) begins.sound.opened seen old new
     leaves_last {result} ended lawful t begins =
         let stands = ended.stands t (ids t begins) (serving.stands t begins) in
         let count_is : new.count ≡ old.count = ended.went.quiet.each.count ∙ serving.ready.listed ∙ sym serving.listed in
-        let counts = (ended_sees result ended).counts in record {
-          opens = λ ahead later dirs count law. (
+        let sees = ended_sees result ended in record {
+          opens = λ later dirs count law. (
               let there = subst (λ (b : Book). BetweenLines version stands.list old.count (has after.live) (λ i. false) b after.last new.now) (book_is t begins)
               (subst (λ (c : ℕ). BetweenLines version stands.list c (has after.live) (λ i. false) (unsaved ns) after.last new.now) count_is stands.between) in
-              ended_opens (asked_at at) begins.sound.opens.version.ctime begins.sound.opened ahead (has after.live) (λ i. false) seen version stands.list after.last old later law
+              ended_opens (asked_at at) begins.sound.opened (has after.live) (λ i. false) seen version stands.list after.last old later law
               (ap (λ (b : Book). b.saved) (sym (book_is t begins))) (between_same new.now later.now dirs there)
-              (λ i below few room. (live_by_count (has after.live) old new counts i below room).0
-              (let same : faults_at later i ≡ faults_at new i = ap (λ (d : ℕ → Dir). (d i).faults) dirs in omega (arith, few, same, counts.grown i))));
-          ended = λ i first below room same ranged. none_reads (disk_at new i) (new.reads i) first (lawful.reads i)
-              (ended.ended t (ids t begins) (serving.stands t begins) i ((live_by_count (has after.live) old new counts i below room).0 same) first ranged);
+              (λ i below room few. live_by_count (has after.live) seen old new sees i below room
+              (let same : faults_at later i ≡ faults_at new i = ap (λ (d : ℕ → Dir). (d i).faults) dirs in omega (arith, few, same))));
+          ended = λ i first below room few ranged. none_reads (disk_at new i) (new.reads i) first (lawful.reads i)
+              (ended.ended t (ids t begins) (serving.stands t begins) i (live_by_count (has after.live) seen old new sees i below room few) first ranged);
         }
       where
         none_file : (f : Option File) (g : Option (List ℕ)) → LeavesFile f g → f ≡ None → g ≡ None
@@ -142,8 +144,10 @@ module _ {told : Type 0} (at count : ℕ) (version : Version) (ns : Namespace) (
       kept = ended_kept ended;
       ended = λ t is begins. leaves_last ended (lawful t) t begins;
       refused = never_refused old new (said_of old s) Ended (λ r e. cc e) serving.unrefused;
-      cause = (let some = ended.some in let same = live_same ended some.0 some.1 in (some.0, same.0, same.1));
-      once = counted_once (has after.live) old new Ended (ended_sees (Ok done) ended).counts;
+      cause = subst (λ l. CausedBy old new l Ended) (sym (all_of seen)) (let some = ended.some in let same = live_same ended some.0 some.1 in (some.0, same.0, same.1));
+      once = counted_once (has after.live) seen old new Ended (ended_rise (Ok done) ended) (ended_sees (Ok done) ended).few;
+      tried = subst (TriedTruly old.count (λ i. faults_at old i)) (sym (all_of seen)) serving.tried;
+      above = λ i. subst (λ l. faults_at old i ≤ base_since old l i) (sym (all_of seen)) (serving.sees.based i).0;
       live = (let sees = ended_sees (Ok done) ended in (subst (SeeLive old.count (λ i. faults_at old i)) (sym (all_of seen)) sees.sees, subst (λ l. SeenWithin l old new) (sym (all_of seen)) sees.within));
     }
 
@@ -160,7 +164,9 @@ module _ {told : Type 0} (at count : ℕ) (version : Version) (ns : Namespace) (
       kept = ended_kept ended;
       ended = λ t is begins. absurd (cc is);
       refused = never_refused old new (said_of old s) NoneLeft (λ r e. cc e) serving.unrefused;
-      cause = none_live after old new (ended_sees (Err e) ended).counts (λ j. (ended.failed j).0);
-      once = counted_once (has after.live) old new NoneLeft (ended_sees (Err e) ended).counts;
+      cause = subst (λ l. CausedBy old new l NoneLeft) (sym (all_of seen)) (none_live after seen old new (ended_sees (Err e) ended).gone (λ j. (ended.failed j).0));
+      once = counted_once (has after.live) seen old new NoneLeft (ended_rise (Err e) ended) (ended_sees (Err e) ended).few;
+      tried = subst (TriedTruly old.count (λ i. faults_at old i)) (sym (all_of seen)) serving.tried;
+      above = λ i. subst (λ l. faults_at old i ≤ base_since old l i) (sym (all_of seen)) (serving.sees.based i).0;
       live = (let sees = ended_sees (Err e) ended in (subst (SeeLive old.count (λ i. faults_at old i)) (sym (all_of seen)) sees.sees, subst (λ l. SeenWithin l old new) (sym (all_of seen)) sees.within));
     }

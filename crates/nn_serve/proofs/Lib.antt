@@ -1,3 +1,4 @@
+pub mod TriedLemmas
 pub mod SinceLemmas
 pub mod OutLemmas
 pub mod EndLemmas

@@ -45,6 +45,7 @@ use Rattle.nn_serve.specs.declared.ending.RunEnd.TheVariants.{Ended, Refused, Ho
 use Rattle.nn_serve.specs.Ended.{run_status, unstarted}
 use Rattle.nn_serve.specs.Ran.{asked_at, RunSays, BeginsSoundly, CausedBy, EndsUnopened, AsItStarts, NoneFailed, StartsAll, IsLeftAt, FailOnce}
 use Rattle.nn_serve.specs.Serving.{HasBegun, IsServing, EndsSo}
+use Rattle.nn_serve.proofs.TriedLemmas.{none_tried}
 use Rattle.nn_serve.proofs.SinceLemmas.{said_of, since_is, since_all, speaks_whole, never_refused}
 use Rattle.nn_serve.proofs.StartLemmas.{quiet_too, start_kept}
 
@@ -77,7 +78,7 @@ unstarted_so : {told : Type 0} (at : ℕ) (old s : State) (end : RunEnd) → is_
     → (told → (begins : BeginsSoundly old) (ahead : ℕ → Bool) (rest : List Bytes) → KeptSoFar (asked_at at) begins.sound.opens.version.ctime begins.sound.opened ahead [] rest old s)
     → ((answers : List Asked → Bytes) → RunSays answers [] 0 end [])
     → (told → (refusal : Refusal) → (end ≡ Refused refusal → Refuses (dirs_of old) Start refusal × ((i : ℕ) → s.reads i ≡ old.reads i)) × (Refuses (dirs_of old) Start refusal → EndsUnopened refusal end × (no_bytes ≡ [])))
-    → CausedBy old s end → FailOnce old s end → EndsSo told at old s [] end
+    → CausedBy old s [] end → FailOnce old s [] end → EndsSo told at old s [] end
 unstarted_so at old s end whole goes quiet kept says refused cause once = record {
   text = [];
   speaks = speaks_whole old s [] (run_status end) whole (out_whole_unspoken quiet, quiet.now.out_faults) (λ t. quiet.now.said ∙ sym (append-nil old.now.said));
@@ -93,18 +94,20 @@ unstarted_so at old s end whole goes quiet kept says refused cause once = record
   cause = cause;
   once = once;
   live = (none_live old, none_within old s);
+  tried = none_tried old.count (λ i. faults_at old i);
+  above = λ i. omega arith;
 }
 
 -- there was no memory before anything was done
 pub out_unbegun : {told : Type 0} (at : ℕ) (old : State) → EndsSo told at old old [] Memory
 out_unbegun at old = unstarted_so at old old Memory refl (λ e. cc e) unspoken_refl
     (λ t begins ahead rest. start_is_of_run (asked_at at) begins.sound.opens.version.ctime begins.sound.opened ahead rest old old (omega arith) unspoken_refl (throughout_refl (λ t. inl (record { at = λ j. inl refl }))))
-    (λ answers. inl (refl, refl)) (λ t refusal. ((λ e. cc e), (λ refuses. (inr (inl refl), refl)))) tt (λ never i below. inl refl)
+    (λ answers. inl (refl, refl)) (λ t refusal. ((λ e. cc e), (λ refuses. (inr (inl refl), refl)))) tt (λ never i below. (omega arith, omega arith))
 
 -- nor once it had begun
 pub out_begun : {told : Type 0} (at count : ℕ) (version : Version) (ns : Namespace) (journal : JournalSet) (last : ℕ) (old s : State) → HasBegun told at count version ns journal last old s → EndsSo told at old s [] Memory
 out_begun at count version ns journal last old s begun = unstarted_so at old s Memory refl (λ e. cc e) begun.quiet begun.kept
-    (λ answers. inl (refl, refl)) (λ t refusal. ((λ e. cc e), (λ refuses. absurd (begun.unrefused t refusal refuses)))) tt (λ never i below. inl (begun.counts.faults i))
+    (λ answers. inl (refl, refl)) (λ t refusal. ((λ e. cc e), (λ refuses. absurd (begun.unrefused t refusal refuses)))) tt (λ never i below. (omega (arith, begun.counts.faults i), omega (arith, begun.counts.faults i)))
 
 -- the start came to nothing
 pub out_unstarted : {told : Type 0} (at : ℕ) (old s : State) (why : OpenFault) → (told → IsRefusedTruly (dirs_of old) Start why) → (told → ReadsWhereRefused old s why) → StartsKept told old s → Unspoken told old s
@@ -113,11 +116,11 @@ out_unstarted at old s (fault.Refused refusal) truly reads kept quiet counted = 
     (λ t other. (
       (λ e. let same : refusal ≡ other = cc e in (subst (Refuses (dirs_of old) Start) same (truly t), reads t)),
       (λ refuses. (inl (ap Refused (one_refuses (dirs_of old) Start refusal other (truly t) refuses)), refl)),
-    )) counted (λ never i below. inl (counted.faults i))
+    )) counted (λ never i below. (omega (arith, counted.faults i), omega (arith, counted.faults i)))
 out_unstarted at old s (fault.Failed i) truly reads kept quiet counted = unstarted_so at old s (HostFault i) refl (λ e. cc e) quiet (start_kept at old s kept quiet) (λ answers. (refl, refl))
     (λ t other. ((λ e. cc e), (λ refuses. (inr (inr (i, refl)), refl)))) counted (λ never. absurd (never i refl))
 out_unstarted at old s fault.Memory truly reads kept quiet counted = unstarted_so at old s Memory refl (λ e. cc e) quiet (start_kept at old s kept quiet) (λ answers. inl (refl, refl))
-    (λ t other. ((λ e. cc e), (λ refuses. (inr (inl refl), refl)))) tt (λ never i below. inl (counted.faults i))
+    (λ t other. ((λ e. cc e), (λ refuses. (inr (inl refl), refl)))) tt (λ never i below. (omega (arith, counted.faults i), omega (arith, counted.faults i)))
 
 -- ---- it says that it has started
 
@@ -185,6 +188,8 @@ module _ {told : Type 0} (at count : ℕ) (version : Version) (ns : Namespace) (
     listed = has_begun.listed;
     ready = record { listed = spoke.count ∙ has_begun.ready.listed; below = has_begun.ready.below; going = has_begun.ready.going; empty = has_begun.ready.empty; fit = has_begun.ready.fit };
     sees = first_is_seen (has journal.live) old new all_live (record { faults = same_now spoke });
+    counts = λ i. sym (same_now spoke i);
+    tried = none_tried old.count (λ i. faults_at old i);
     some = λ there. (0, all_live 0 there);
     left = λ there. none_left old.count;
     opening = λ t opened opens none. opening_at spoke t opened;
@@ -229,6 +234,8 @@ module _ {told : Type 0} (at count : ℕ) (version : Version) (ns : Namespace) (
         ended = λ t is begins. absurd (cc is);
         refused = never_refused old new (said_of old new) OutFault (λ r e. cc e) has_begun.unrefused;
         cause = tt;
-        once = λ never i below. inl (same_now spoke i);
+        once = λ never i below. (omega (arith, same_now spoke i), omega (arith, same_now spoke i));
         live = (none_live old, none_within old new);
+        tried = none_tried old.count (λ i. faults_at old i);
+        above = λ i. omega arith;
       }

@@ -1,5 +1,5 @@
 -- What is known of a run's end, with how far its script was read.
-use Rattle.std.proofs.Common.{◌≡◌, inl, inr, Result, Err, ◌⊎◌, ℕ, ◌-◌, ◌<◌, ◌≤◌, ◌^◌, List, [], ◌∷◌, ◌++◌, length, refl, sym, ◌∙◌, ap, subst, arith}
+use Rattle.std.proofs.Common.{◌≡◌, inl, inr, Result, Err, ◌⊎◌, ℕ, ◌-◌, ◌<◌, ◌≤◌, ◌^◌, List, [], ◌∷◌, ◌++◌, length, take, refl, sym, ◌∙◌, ap, subst, arith}
 use Rattle.std.proofs.lemmas.List.{length-append, map-append}
 use Rattle.nn_base.specs.Limits.{most_script}
 use Rattle.nn_base.specs.Paths.{Bytes}
@@ -16,12 +16,13 @@ use Rattle.nn_pick.specs.Opening.{Opening, Opens}
 use Rattle.nn_reader.specs.Script.{AtEnd, OnTheWay, ScriptRead}
 use Rattle.nn_reader.proofs.ScriptLemmas.{on_the_way, unread}
 use Rattle.nn_run.specs.Running.{Asked}
+use Rattle.nn_run.specs.Window.{base_since}
 use Rattle.nn_run.specs.Course.{dirs_of, started_line}
 use Rattle.nn_server.specs.Came.{CameTo}
 use Rattle.nn_serve.specs.declared.ending.RunEnd.{RunEnd}
 use Rattle.nn_serve.specs.declared.ending.RunEnd.TheVariants.{Ended, Refused, HostFault, NoneLeft, SourceFault, ScriptTooLong, Memory, OutFault}
 use Rattle.nn_serve.specs.Ended.{run_status, run_reached}
-use Rattle.nn_serve.specs.Ran.{lines_of_all, RunRan}
+use Rattle.nn_serve.specs.Ran.{lines_of_all, CausedBy, RunRan}
 use Rattle.nn_serve.specs.Serving.{HasBegun, IsServing, EndsSo}
 use Rattle.nn_serve.specs.Turns.{SaysStarted}
 use Rattle.nn_serve.proofs.OpeningLemmas.{out_begun, out_unsaid}
@@ -31,11 +32,17 @@ use Rattle.nn_serve.proofs.OpeningLemmas.{out_begun, out_unsaid}
 module _ {told_host told_source : Type 0} (at : ℕ) (script left : Bytes) (before after : ℕ) (old new : State) (seen : List Asked) (host : told_host) (source : told_source)
     (opened : Opening) (opens : Opens (dirs_of old) Start opened) (short : length script ≤ most_script) (source_room : before < 2 ^ 64 - 1) (source_same : after ≡ before) (out_room : old.now.out_faults < 2 ^ 64 - 1) (out_same : new.now.out_faults ≡ old.now.out_faults)
     (i : ℕ) (below : i < old.count) (room : faults_at old i < 2 ^ 64 - 1) (same : faults_at new i ≡ faults_at old i) where
+  not_past : (lines : List Asked) → ((j : ℕ) → faults_at old j ≤ base_since old lines j) → CausedBy old new lines NoneLeft → ⊥
+  not_past lines above past = elim (past i below) [
+    | inl rose ↦ omega (arith, rose, same, above i)
+    | inr last ↦ omega (arith, last, same, room)
+  ]
+
   completes : (end : RunEnd) → EndsSo told_host at old new seen end → ScriptRead told_source script left before after (run_reached end) (lines_of_all seen) → (end ≡ Ended) ⊎ ((end ≡ Memory) ⊎ ((j : DirNo) × (end ≡ HostFault j)))
   completes Ended so read = inl refl
   completes (Refused refusal) so read = absurd (opens.unrefused refusal ((so.refused host refusal).0 refl).0.applies)
   completes (HostFault j) so read = inr (inr (j, refl))
-  completes NoneLeft so read = absurd (omega (arith, room, same, so.cause i below))
+  completes NoneLeft so read = absurd (not_past (take so.reached seen) so.above so.cause)
   completes SourceFault so read = absurd (omega (arith, source_room, source_same, read.counted))
   completes ScriptTooLong so read =
       let of = read.of_script source in
@@ -63,6 +70,7 @@ came_to at script left before after old new seen end so read = record {
     cause = so.cause;
     once = so.once;
     live = so.live;
+    tried = so.tried;
     complete = λ host source opened opens short source_room source_same out_room out_same i below room same.
         completes at script left before after old new seen host source opened opens short source_room source_same out_room out_same i below room same end so read;
   };

@@ -7,7 +7,7 @@ use Rattle.std.proofs.Math.Seq.{drop-append_seam}
 use Rattle.std.proofs.lemmas.List.{take_all, length-append, length-drop}
 use Rattle.nn_base.specs.DirSets.{has}
 use Rattle.nn_base.specs.Paths.{Bytes}
-use Rattle.nn_host.specs.Moments.{State, Moment}
+use Rattle.nn_host.specs.Moments.{State, Moment, faults_at}
 use Rattle.nn_host.specs.Calls.{next_count}
 use Rattle.nn_host.proofs.RunsLemmas.{out_whole_trans, silent_whole, throughout_trans, throughout_weaker}
 use Rattle.nn_marks.specs.declared.version.Version.{Version}
@@ -20,7 +20,8 @@ use Rattle.nn_journal.specs.declared.journal.JournalSet.{JournalSet}
 use Rattle.nn_journal.specs.Among.{EachCounted}
 use Rattle.nn_run.specs.Running.{Asked}
 use Rattle.nn_run.specs.Course.{dirs_of, answers_of, course_of, RunKept, started_line, first_of}
-use Rattle.nn_whole.specs.Counted.{HasCounts, StepCounts}
+use Rattle.nn_run.specs.Steps.{StepCounts}
+use Rattle.nn_whole.specs.Counted.{AreFew, AreGone}
 use Rattle.nn_core.specs.Events.{GoesOut}
 use Rattle.nn_server.specs.declared.status.Status.{Status}
 use Rattle.nn_server.specs.Came.{Speaks, is_out_fault}
@@ -62,25 +63,24 @@ all_of xs = take_all (length xs) xs (omega arith)
 
 -- ---- counts of an event
 
-pub step_counts : (journal after : JournalSet) (s new : State) → EachCounted journal.live journal.live after.live s new → StepCounts (has journal.live) (has after.live) s new
+-- a step of no line
+pub step_counts : (journal after : JournalSet) (s new : State) → EachCounted journal.live journal.live after.live s new → StepCounts None (has journal.live) (has after.live) s new
 step_counts journal after s new counted i = elim (counted i) [
   | inl stays ↦ inl (stays.same_live, stays.faults)
-  | inr dropped ↦ inr (dropped.was_among, dropped.not_live, dropped.faults)
+  | inr dropped ↦ inr (inl (dropped.was_among, dropped.not_live, dropped.faults))
 ]
 
-pub counted_once : (live : ℕ → Bool) (old new : State) (end : RunEnd) → HasCounts live old new → FailOnce old new end
-counted_once live old new end counts never i below = elim (counts.each i below) [
-  | inl is ↦ inl is.1
-  | inr gone ↦ inr gone.1
-]
+pub counted_once : (live : ℕ → Bool) (lines : List Asked) (old new : State) (end : RunEnd) → ((i : ℕ) → faults_at old i ≤ faults_at new i) → AreFew live lines old new → FailOnce old new lines end
+counted_once live lines old new end rise few never i below = (rise i, omega (arith, few i below))
 
-pub none_live : (after : JournalSet) (old new : State) → HasCounts (has after.live) old new → ((j : ℕ) → has after.live j ≡ false) → CausedBy old new NoneLeft
-none_live after old new counts none i below = elim (counts.each i below) [
-  | inl is ↦ absurd (let apart = sym (none i) ∙ is.0 in cc)
-  | inr gone ↦ gone.1
-]
+pub none_live : (after : JournalSet) (done : List Asked) (old new : State) → AreGone (has after.live) done old new → ((j : ℕ) → has after.live j ≡ false) → CausedBy old new done NoneLeft
+none_live after done old new gone none i below = gone i below (none i)
 
 module _ {told : Type 0} (at count : ℕ) (version : Version) (ns : Namespace) (time : ℕ) (journal : JournalSet) (seen : List Asked) (old s : State) (serving : IsServing told at count version ns time journal seen old s) where
+  -- no count has fallen
+  pub risen_here : (i : ℕ) → faults_at old i ≤ faults_at s i
+  risen_here i = omega (arith, (serving.sees.based i).0, (serving.sees.based i).1)
+
   pub said_here : told → s.now.said ≡ old.now.said ++ said_of old s
   said_here t = let grew = serving.grew t in since_all old s grew.0 grew.1
 

@@ -3,7 +3,7 @@ use Rattle.std.proofs.Common.{◌≡◌, inl, inr, ℕ, ◌+◌, ◌<◌, ◌^�
 use Rattle.std.proofs.lemmas.Bool.{and_parts}
 use Rattle.nn_base.specs.DirSets.{has}
 use Rattle.nn_base.specs.Paths.{Bytes}
-use Rattle.nn_host.specs.Moments.{State}
+use Rattle.nn_host.specs.Moments.{State, faults_at}
 use Rattle.nn_host.specs.Runs.{Unspoken, SameCounts}
 use Rattle.nn_host.proofs.RunsLemmas.{throughout_told}
 use Rattle.nn_marks.specs.declared.version.Version.{Version}
@@ -48,11 +48,11 @@ pub start_kept : {told : Type 0} (at : ℕ) (old s : State) → StartsKept told 
     → KeptSoFar (asked_at at) begins.sound.opens.version.ctime begins.sound.opened ahead [] rest old s
 start_kept at old s kept quiet t begins ahead rest =
     let chosen = begins.sound.opened.chosen in
-    let count : CountChosen (dirs_of old) begins.sound.opened.book (is_of_run chosen false old) (is_held ahead chosen false old) = record {
+    let count : CountChosen (dirs_of old) begins.sound.opened.book (is_of_run chosen false (λ j. faults_at old j)) (is_held ahead chosen false old) = record {
       of_run = λ i d e. (begins.sound.opens.chosen i).1 (and_parts (chosen i) (is_unfailed old i d) e).0;
-      led = λ i d e. ((begins.sound.opens.chosen i).1 (and_parts (chosen i) (is_unfailed old i d) (and_parts (ahead i) (is_of_run chosen false old i d) e).1).0, inr begins.unsaved);
+      led = λ i d e. ((begins.sound.opens.chosen i).1 (and_parts (chosen i) (is_unfailed old i d) (and_parts (ahead i) (is_of_run chosen false (λ j. faults_at old j) i d) e).1).0, inr begins.unsaved);
     } in
-    let through = kept begins.sound (shared_at old begins) (is_of_run chosen false old) (is_held ahead chosen false old) (starts_from old begins) (let few = begins.room in omega (arith, few)) count (λ i d e. inl begins.unsaved) in
+    let through = kept begins.sound (shared_at old begins) (is_of_run chosen false (λ j. faults_at old j)) (is_held ahead chosen false old) (starts_from old begins) (let few = begins.room in omega (arith, few)) count (λ i d e. inl begins.unsaved) in
     start_is_of_run (asked_at at) begins.sound.opens.version.ctime begins.sound.opened ahead rest old s (omega arith) (quiet_too old s quiet t) (throughout_told (λ (u : Unit {0}). t) through)
 
 -- ---- a start that was answered

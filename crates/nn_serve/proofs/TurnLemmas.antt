@@ -1,10 +1,10 @@
 -- One line of a run, and then the next.
 use Rattle.std.proofs.lemmas.List.Elements.{All-append, All-cons, All-nil}
-use Rattle.std.proofs.Common.{◌≡◌, inl, inr, ℕ, ◌+◌, ◌*◌, ◌≤◌, Bool, true, List, [], ◌∷◌, ◌++◌, take, Ok, Err, None, Option, Result, refl, sym, ◌∙◌, ap, subst, arith, append_assoc, All}
+use Rattle.std.proofs.Common.{◌≡◌, inl, inr, ℕ, ◌+◌, ◌*◌, ◌≤◌, Bool, true, List, [], ◌∷◌, ◌++◌, take, Ok, Err, None, Some, Option, Result, refl, sym, ◌∙◌, ap, subst, arith, append_assoc, All}
 use Rattle.std.proofs.lemmas.Bool.{cases_Bool}
 use Rattle.nn_base.specs.DirSets.{has, count_of}
 use Rattle.nn_base.specs.Paths.{Bytes}
-use Rattle.nn_host.specs.Moments.{State}
+use Rattle.nn_host.specs.Moments.{State, faults_at}
 use Rattle.nn_host.proofs.RunsLemmas.{throughout_told, throughout_weaker}
 use Rattle.nn_marks.specs.declared.version.Version.{Version}
 use Rattle.nn_tree.specs.Namespace.{Namespace}
@@ -15,11 +15,12 @@ use Rattle.nn_script.specs.declared.syntax.Syntax.{Syntax}
 use Rattle.nn_script.specs.Lines.{has_no_answer}
 use Rattle.nn_script.specs.Reading.{reading_of}
 use Rattle.nn_journal.specs.declared.journal.JournalSet.{JournalSet}
-use Rattle.nn_run.specs.Running.{Running, Sight, Asked, reply_read, reply_at, after_asked}
+use Rattle.nn_run.specs.Running.{Running, Sight, Asked, Failed, reply_read, reply_at, after_asked, restored_dir, back_at, is_back}
 use Rattle.nn_run.specs.Course.{dirs_of, first_of, course_of, RunKept, answers_of}
 use Rattle.nn_run.proofs.LineLemmas.{read_some}
 use Rattle.nn_run.specs.Loop.{KeptSoFar}
-use Rattle.nn_run.specs.Steps.{StepKept, HasAnswered}
+use Rattle.nn_run.specs.Steps.{StepKept, StepCounts, SeesRestored, HasAnswered}
+use Rattle.nn_run.proofs.BaseLemmas.{is_back_there}
 use Rattle.nn_run.proofs.LoopLemmas.{next_is_kept}
 use Rattle.nn_whole.specs.Served.{HasSaid, SaysLast}
 use Rattle.nn_whole.proofs.CountedLemmas.{next_is_seen, step_rises, step_narrows}
@@ -30,7 +31,9 @@ use Rattle.nn_core.specs.Standing.{HasIds}
 use Rattle.nn_serve.specs.Ran.{asked_at, IsLeftAt, BeginsSoundly, NoneFailed}
 use Rattle.nn_serve.specs.Serving.{IsServing, HasRoom}
 use Rattle.nn_serve.specs.Turns.{TurnsTo}
-use Rattle.nn_serve.proofs.SinceLemmas.{goes_on, step_counts, first_long, opening_on, starts_on}
+use Rattle.nn_serve.specs.Tried.{counts_by, IsTried, TriedTruly}
+use Rattle.nn_serve.proofs.TriedLemmas.{counts_next, tried_next, restore_is, came_tried}
+use Rattle.nn_serve.proofs.SinceLemmas.{goes_on, first_long, opening_on, starts_on}
 use Rattle.nn_serve.proofs.OutLemmas.{out_stepped}
 
 -- ---- ids
@@ -51,7 +54,10 @@ one_more count seen next all one = All-append (IsLeftAt count) seen (next ∷ []
 module _ {told : Type 0} (at count : ℕ) (version : Version) (ns ns_after : Namespace) (time time_after : ℕ) (journal after : JournalSet) (seen : List Asked) (old s new : State) (serving : IsServing told at count version ns time journal seen old s)
     (reading : Result (Option ScriptCommand) Syntax) (line : Bytes) (reads : reading_of line ≡ reading) (v : Unit {0}) (stepped : HasStepped told reading count version ns ns_after time time_after journal after s new (Ok v)) where
   abbrev next : Asked
-  next = seen_at line after.live new
+  next = seen_at line stepped.restored after.live new
+
+  counts : StepCounts (restored_dir (reading_of line)) (has journal.live) (has after.live) s new
+  counts = subst (λ r. StepCounts (restored_dir r) (has journal.live) (has after.live) s new) (sym reads) stepped.live.counted
 
   module _ (tells : told) (opened : Opening) (opens : Opens (dirs_of old) Start opened) (none : opened.book.saved ≡ None) where
     abbrev before : Running
@@ -67,16 +73,18 @@ module _ {told : Type 0} (at count : ℕ) (version : Version) (ns ns_after : Nam
     answered : HasAnswered (Unit {0}) old.count before (running ns_after time_after) (has journal.live) (has after.live) next s new
     answered = renamed (λ k run. HasAnswered (Unit {0}) k run (running ns_after time_after) (has journal.live) (has after.live) next s new) (
         let it = stepped.answered line reads in
-        record { said = λ u. it.said tells; goes_on = it.goes_on; counted = it.counted; sees_live = it.sees_live; sees_faults = it.sees_faults })
+        record { said = λ u. it.said tells; goes_on = it.goes_on; counted = it.counted; sees_live = it.sees_live; sees_faults = it.sees_faults; sees_restored = it.sees_restored })
 
     spoken : SaysLast (reply_at old.count before next).text s new
     spoken = renamed (λ k run. SaysLast (reply_at k run next).text s new) (throughout_told (λ u. tells) (stepped.spoken line reads))
 
     said_next : HasSaid (asked_at at) opens.version.ctime opened (has after.live) (seen ++ next ∷ []) old new × (running ns_after time_after ≡ after_asked old.count (first_of (asked_at at) opened) (seen ++ next ∷ []))
     said_next =
-        let counts = step_counts journal after s new stepped.live.counted in
         next_is_said (asked_at at) opens.version.ctime opened (has journal.live) (has after.live) seen next (running ns_after time_after) old s new (serving.said tells opened opens none).0 answered spoken
-        (step_rises (has journal.live) (has after.live) s new counts) (λ i below e. step_narrows (has journal.live) (has after.live) s new counts i e)
+        (step_rises (restored_dir (reading_of line)) (has journal.live) (has after.live) s new counts) (λ i below e. elim (step_narrows (restored_dir (reading_of line)) (has journal.live) (has after.live) s new counts i e) [
+          | inl was ↦ inl was
+          | inr is ↦ inr (is_back_there old.count next i below is ((answered.sees_restored i below is).1 e))
+        ])
 
   kept_next : (ids : told → BeginsSoundly old → HasIds journal) → told → (begins : BeginsSoundly old) (ahead : ℕ → Bool) (rest : List Bytes)
       → KeptSoFar (asked_at at) begins.sound.opens.version.ctime begins.sound.opened ahead (seen ++ next ∷ []) rest old new
@@ -85,7 +93,7 @@ module _ {told : Type 0} (at count : ℕ) (version : Version) (ns ns_after : Nam
       let opens = begins.sound.opens in
       let said = (serving.said tells opened opens begins.unsaved).0 in
       next_is_kept (asked_at at) opens.version.ctime opened ahead (has journal.live) (λ i. true) seen next rest old s new
-      (record { batch = omega arith; said = said.said; grown = said.grown; alive = λ i below same room. said.alive i below room same; held = λ i below e same. refl })
+      (record { batch = omega arith; said = said.said; based = said.based; alive = said.alive; held = λ i below e same. refl })
       (serving.kept tells begins ahead (line ∷ rest))
       (renamed tells opened opens begins.unsaved (λ k run. StepKept (Unit {0}) k run (has journal.live) (λ i. true) next s new) (stepped.kept tells (ids tells begins) (serving.stands tells begins) line reads))
 
@@ -94,7 +102,11 @@ module _ {told : Type 0} (at count : ℕ) (version : Version) (ns ns_after : Nam
     record {
       listed = serving.listed;
       ready = stepped.ready;
-      sees = next_is_seen (has journal.live) (has after.live) seen next old s new serving.sees (step_counts journal after s new stepped.live.counted) (λ i. refl) (λ i. refl);
+      sees = next_is_seen (has journal.live) (has after.live) seen next old s new serving.sees counts (λ i. refl) (λ i. refl)
+          (subst (λ k. SeesRestored k (has after.live) next) (sym serving.listed) (stepped.answered line reads).sees_restored);
+      counts = counts_next (λ i. faults_at old i) seen next;
+      tried = tried_next old.count (λ i. faults_at old i) seen next serving.tried (λ i below is. came_tried line (serving.counts i)
+          (stepped.came i (sym reads ∙ restore_is (reading_of line) i is) (omega (arith, below, serving.listed))));
       some = λ there. stepped.live.some (inl (serving.some there));
       left = λ there. one_more old.count seen next (serving.left there)
           (let live = stepped.live.some (inl (serving.some there)) in (live.0, (let below = stepped.ready.below live.0 live.1 in omega (arith, below, serving.listed)), live.1));
@@ -130,14 +142,16 @@ silent_line count run sight line reads = elim (cases_Bool (has_no_answer line)) 
 ]
 
 pub silent : {told : Type 0} (at count : ℕ) (version : Version) (ns : Namespace) (time : ℕ) (journal : JournalSet) (seen : List Asked) (old s : State) → IsServing told at count version ns time journal seen old s → (line : Bytes) → reading_of line ≡ Ok None → (more : ℕ) → HasRoom told old journal (more + 1)
-    → IsServing told at count version ns time journal (seen ++ seen_at line journal.live s ∷ []) old s × HasRoom told old journal more
+    → IsServing told at count version ns time journal (seen ++ seen_at line Failed journal.live s ∷ []) old s × HasRoom told old journal more
 silent at count version ns time journal seen old s serving line reads more room = (
   record {
     listed = serving.listed;
     ready = serving.ready;
-    sees = next_is_seen (has journal.live) (has journal.live) seen (seen_at line journal.live s) old s s serving.sees (λ i. inl (refl, refl)) (λ i. refl) (λ i. refl);
+    sees = next_is_seen (has journal.live) (has journal.live) seen (seen_at line Failed journal.live s) old s s serving.sees (λ i. inl (refl, refl)) (λ i. refl) (λ i. refl) (λ i below e. absurd (none_asked i e));
+    counts = counts_next (λ i. faults_at old i) seen (seen_at line Failed journal.live s);
+    tried = tried_next old.count (λ i. faults_at old i) seen (seen_at line Failed journal.live s) serving.tried (λ i below e. absurd (none_asked i e));
     some = serving.some;
-    left = λ there. one_more old.count seen (seen_at line journal.live s) (serving.left there)
+    left = λ there. one_more old.count seen (seen_at line Failed journal.live s) (serving.left there)
         (let live = serving.some there in (live.0, (let below = serving.ready.below live.0 live.1 in omega (arith, below, serving.listed)), live.1));
     opening = serving.opening;
     started = serving.started;
@@ -146,15 +160,18 @@ silent at count version ns time journal seen old s serving line reads more room 
     grew = serving.grew;
     said = λ tells opened opens none.
         let it = serving.said tells opened opens none in
-        let next = silent_is_said (asked_at at) opens.version.ctime opened (has journal.live) seen (seen_at line journal.live s) old s (silent_line count (running ns time) (seen_at line journal.live s).sight line reads) (λ i. refl) (λ i. refl) it.0 in
+        let next = silent_is_said (asked_at at) opens.version.ctime opened (has journal.live) seen (seen_at line Failed journal.live s) old s (silent_line count (running ns time) (seen_at line Failed journal.live s).sight line reads) (λ i. refl) (λ i. refl) it.0 in
         (next.0, it.1 ∙ sym next.1);
     kept = λ tells begins ahead rest later lines.
-        subst (λ (l : List Asked). RunKept (Unit {0}) (course_of (asked_at at) old.count begins.sound.opens.version.ctime begins.sound.opened l ahead) old s) (sym (append_assoc seen (seen_at line journal.live s ∷ []) later))
-        (serving.kept tells begins ahead (line ∷ rest) (seen_at line journal.live s ∷ later) (ap (λ l. line ∷ l) lines));
+        subst (λ (l : List Asked). RunKept (Unit {0}) (course_of (asked_at at) old.count begins.sound.opens.version.ctime begins.sound.opened l ahead) old s) (sym (append_assoc seen (seen_at line Failed journal.live s ∷ []) later))
+        (serving.kept tells begins ahead (line ∷ rest) (seen_at line Failed journal.live s ∷ later) (ap (λ l. line ∷ l) lines));
     stands = serving.stands;
   },
   record { ids = omega (arith, room.ids); few = λ tells begins. omega (arith, room.few tells begins) },
 )
+  where
+    none_asked : (i : ℕ) → restored_dir (reading_of line) ≡ Some i → ⊥
+    none_asked i e = let no : None ≡ Some i = sym (ap restored_dir reads) ∙ e in absurd (cc no)
 
 -- ---- whatever an event came to
 
@@ -163,6 +180,6 @@ pub turned_to : {told : Type 0} (at count : ℕ) (version : Version) (ns ns_afte
     → (more : ℕ) → HasRoom told old journal (more + 1) → TurnsTo told at count version ns_after time_after after seen line more old new result
 turned_to at count version ns ns_after time time_after journal after seen old s new serving reading line reads (Ok v) stepped more room =
     let it = turned at count version ns ns_after time time_after journal after seen old s new serving reading line reads v stepped more room in
-    (seen_at line after.live new, refl, it.0, it.1)
+    (seen_at line stepped.restored after.live new, refl, it.0, it.1)
 turned_to at count version ns ns_after time time_after journal after seen old s new serving reading line reads (Err end) stepped more room =
-    (seen_at line after.live new, refl, out_stepped at count version ns time journal seen old s serving reading ns_after time_after after new (room_ids room) line reads end stepped)
+    (seen_at line stepped.restored after.live new, refl, out_stepped at count version ns time journal seen old s serving reading ns_after time_after after new (room_ids room) line reads end stepped)

@@ -1,4 +1,5 @@
 pub mod Ended
+pub mod Tried
 pub mod Ran
 pub mod Serving
 pub mod Turns

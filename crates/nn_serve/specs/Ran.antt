@@ -17,15 +17,16 @@ use Rattle.nn_pick.specs.Refusing.{Refuses, spent_from}
 use Rattle.nn_pick.specs.Opening.{Opening, Opens, AreSound}
 use Rattle.nn_reader.specs.Script.{ScriptRead}
 use Rattle.nn_run.specs.Running.{Asked, SeeLive}
-use Rattle.nn_run.specs.Window.{said_since}
+use Rattle.nn_run.specs.Window.{said_since, base_since}
 use Rattle.nn_run.specs.Course.{started_line, RunAsked, dirs_of, answers_of, course_of, RunKept}
 use Rattle.nn_whole.specs.Ended.{OpensToLast}
 use Rattle.nn_begin.specs.Begun.{IsStarted}
-use Rattle.nn_whole.specs.Counted.{SeenWithin}
+use Rattle.nn_whole.specs.Counted.{IsPast, tries_of, SeenWithin}
 use Rattle.nn_whole.specs.Served.{SeenTruly}
 use Rattle.nn_serve.specs.declared.ending.RunEnd.{RunEnd}
 use Rattle.nn_serve.specs.declared.ending.RunEnd.TheVariants.{Ended, Refused, HostFault, NoneLeft, SourceFault, ScriptTooLong, Memory, OutFault}
 use Rattle.nn_serve.specs.Ended.{run_reached}
+use Rattle.nn_serve.specs.Tried.{TriedTruly}
 
 -- a run without an upgrade that begins at this time: each command is synced by itself
 abbrev pub asked_at : ℕ → RunAsked
@@ -83,23 +84,23 @@ pub record BeginsSoundly (old : State) : Type 0 where
 -- ---- what it leaves
 
 -- As long as the directories are and read as then, every choice with one of the run opens to the Book after all lines, where what reads is fair; and no directory of the run has a segment in progress.
-pub record LeavesLast (asked : RunAsked) (ctime : ℕ) (opened : Opening) (seen : List Asked) (old new : State) : Type 0 where
-  pub opens : (ahead : ℕ → Bool) (after : State) → after.now.dirs ≡ new.now.dirs → after.count ≡ new.count → IsLawful after → OpensToLast asked ctime opened ahead seen old after
-  pub ended : (i : ℕ) (first : ℕ) → i < old.count → faults_at old i < 2 ^ 64 - 1 → faults_at new i ≡ faults_at old i → IsInRange (InProgress first) → (new.reads i).file Current (InProgress first) ≡ None
+pub record LeavesLast (asked : RunAsked) (opened : Opening) (seen : List Asked) (old new : State) : Type 0 where
+  pub opens : (after : State) → after.now.dirs ≡ new.now.dirs → after.count ≡ new.count → IsLawful after → OpensToLast asked opened seen old after
+  pub ended : (i : ℕ) (first : ℕ) → i < old.count → base_since old seen i < 2 ^ 64 - 1 → faults_at new i ≤ base_since old seen i → IsInRange (InProgress first) → (new.reads i).file Current (InProgress first) ≡ None
 
 -- ---- causes
 
--- which counts of directories rose, by the end: each, where none is left; and not each, where the last segment was ended
-abbrev pub CausedBy : State → State → RunEnd → Type 0
-CausedBy old new Ended = (i : ℕ) × (i < old.count) × (faults_at new i ≡ faults_at old i)
-CausedBy old new (Refused refusal) = SameCounts old new
-CausedBy old new (HostFault i) = (i.0 < old.count) × (faults_at new i.0 ≡ next_count (faults_at old i.0))
-CausedBy old new NoneLeft = (i : ℕ) → i < old.count → faults_at new i ≡ next_count (faults_at old i)
-CausedBy old new end = Unit {0}
+-- which counts of directories rose, by the end, since the run began or since a line last took the directory back: each, where none is left; and not each, where the last segment was ended
+abbrev pub CausedBy : State → State → List Asked → RunEnd → Type 0
+CausedBy old new answered Ended = (i : ℕ) × (i < old.count) × (faults_at new i ≡ base_since old answered i)
+CausedBy old new answered (Refused refusal) = SameCounts old new
+CausedBy old new answered (HostFault i) = (i.0 < old.count) × (faults_at new i.0 ≡ next_count (faults_at old i.0))
+CausedBy old new answered NoneLeft = (i : ℕ) → i < old.count → IsPast (base_since old answered i) (faults_at new i)
+CausedBy old new answered end = Unit {0}
 
--- A directory is dropped at its first failure and not touched again: its count is the same, or the next one. Before a run has started several can fail.
-abbrev pub FailOnce : State → State → RunEnd → Type 0
-FailOnce old new end = ((j : DirNo) → end ≢ HostFault j) → (i : ℕ) → i < old.count → (faults_at new i ≡ faults_at old i) ⊎ (faults_at new i ≡ next_count (faults_at old i))
+-- A directory is dropped at its first failure, and touched again only by a line that is to take it back: its count rose at most once, and once more for each such line. Before a run has started several can fail.
+abbrev pub FailOnce : State → State → List Asked → RunEnd → Type 0
+FailOnce old new lines end = ((j : DirNo) → end ≢ HostFault j) → (i : ℕ) → i < old.count → (faults_at old i ≤ faults_at new i) × (faults_at new i ≤ faults_at old i + 1 + tries_of lines i)
 
 -- ---- directories that don't open
 
@@ -126,13 +127,15 @@ pub record RunRan (told_host told_source : Type 0) (at : ℕ) (script left : Byt
   -- at every moment every choice with a directory of the run opens into its window, whatever lines come behind those that were read
   pub kept : told_host → (begins : BeginsSoundly old) (ahead : ℕ → Bool) (rest : List Asked) → RunKept (Unit {0}) (course_of (asked_at at) old.count begins.sound.opens.version.ctime begins.sound.opened (seen ++ rest) ahead) old new
   -- and what done work leaves
-  pub ended : told_host → end ≡ Ended → (begins : BeginsSoundly old) → LeavesLast (asked_at at) begins.sound.opens.version.ctime begins.sound.opened seen old new
+  pub ended : told_host → end ≡ Ended → (begins : BeginsSoundly old) → LeavesLast (asked_at at) begins.sound.opened seen old new
   -- refused exactly by the first refusal of the table, and then nothing that reads is changed
   pub refused : told_host → (refusal : Refusal) → (end ≡ Refused refusal → Refuses (dirs_of old) Start refusal × ((i : ℕ) → new.reads i ≡ old.reads i)) × (Refuses (dirs_of old) Start refusal → EndsUnopened refusal end × (text ≡ []))
-  -- for every host: which counts rose, and that live are just those whose count hasn't
-  pub cause : CausedBy old new end
-  pub once : FailOnce old new end
+  -- for every host: which counts rose
+  pub cause : CausedBy old new (take reached seen) end
+  pub once : FailOnce old new seen end
+  -- as far as the counts that were seen tell, that live are just those whose count hasn't risen since the run began or since it was last taken back; and what came of the lines that were to take one back
   pub live : SeeLive old.count (λ i. faults_at old i) (take reached seen) × SeenWithin (take reached seen) old new
+  pub tried : TriedTruly old.count (λ i. faults_at old i) (take reached seen)
   -- and that no line is answered once none is left
   pub some : SomeLeft old.count (take reached seen)
   -- where the directories open, the script is short enough and neither the source nor the output failed, nothing else ends it while one directory has no failure, but want of memory or a failure before it started

@@ -13,6 +13,7 @@ use Rattle.nn_pick.specs.Refusing.{Refuses, spent_from}
 use Rattle.nn_pick.specs.Opening.{Opening, Opens}
 use Rattle.nn_journal.specs.declared.journal.JournalSet.{JournalSet}
 use Rattle.nn_run.specs.Running.{Asked, SeeLive, after_asked}
+use Rattle.nn_run.specs.Window.{base_since}
 use Rattle.nn_run.specs.Course.{dirs_of, first_of, answers_of, course_of, RunKept}
 use Rattle.nn_run.specs.Loop.{KeptSoFar}
 use Rattle.nn_whole.specs.Counted.{HasSeen, SeenWithin}
@@ -24,6 +25,7 @@ use Rattle.nn_server.specs.Came.{Speaks}
 use Rattle.nn_serve.specs.declared.ending.RunEnd.{RunEnd}
 use Rattle.nn_serve.specs.declared.ending.RunEnd.TheVariants.{Ended, Refused}
 use Rattle.nn_serve.specs.Ended.{run_status}
+use Rattle.nn_serve.specs.Tried.{counts_by, TriedTruly}
 use Rattle.nn_serve.specs.Ran.{asked_at, RunSays, AsItStarts, NoneFailed, StartsAll, SomeLeft, BeginsSoundly, LeavesLast, CausedBy, FailOnce, EndsUnopened}
 
 -- ---- on its way
@@ -48,6 +50,8 @@ pub record IsServing (told : Type 0) (at count : ℕ) (version : Version) (ns : 
   pub listed : old.count ≡ count
   pub ready : IsReady journal count s
   pub sees : HasSeen (has journal.live) seen old s
+  pub counts : (i : ℕ) → counts_by (λ j. faults_at old j) seen i ≡ faults_at s i
+  pub tried : TriedTruly old.count (λ i. faults_at old i) seen
   pub some : 0 < old.count → HasLive journal
   pub left : SomeLeft old.count seen
   pub out : GoesOut told old s
@@ -67,7 +71,7 @@ pub record HasRoom (told : Type 0) (old : State) (journal : JournalSet) (more : 
 
 -- ---- at its end
 
--- what is known of its end, whatever the script: all of what a run tells but for how far it was read
+-- what is known of its end, whatever the script: all of what a run tells but for how far it was read; and that no count from which on a directory is of the run is below that at entry
 pub record EndsSo (told : Type 0) (at : ℕ) (old new : State) (seen : List Asked) (end : RunEnd) : Type 0 where
   pub text : Bytes
   pub speaks : Speaks told old new text (run_status end)
@@ -79,8 +83,10 @@ pub record EndsSo (told : Type 0) (at : ℕ) (old new : State) (seen : List Aske
   pub started : told → text ≢ [] → (begins : BeginsSoundly old) → StartsAll old new begins.sound.opened.last begins.sound.opened.book.ns
   pub some : SomeLeft old.count (take reached seen)
   pub kept : told → (begins : BeginsSoundly old) (ahead : ℕ → Bool) (rest : List Asked) → RunKept (Unit {0}) (course_of (asked_at at) old.count begins.sound.opens.version.ctime begins.sound.opened (seen ++ rest) ahead) old new
-  pub ended : told → end ≡ Ended → (begins : BeginsSoundly old) → LeavesLast (asked_at at) begins.sound.opens.version.ctime begins.sound.opened seen old new
+  pub ended : told → end ≡ Ended → (begins : BeginsSoundly old) → LeavesLast (asked_at at) begins.sound.opened seen old new
   pub refused : told → (refusal : Refusal) → (end ≡ Refused refusal → Refuses (dirs_of old) Start refusal × ((i : ℕ) → new.reads i ≡ old.reads i)) × (Refuses (dirs_of old) Start refusal → EndsUnopened refusal end × (text ≡ []))
-  pub cause : CausedBy old new end
-  pub once : FailOnce old new end
+  pub cause : CausedBy old new (take reached seen) end
+  pub once : FailOnce old new seen end
   pub live : SeeLive old.count (λ i. faults_at old i) (take reached seen) × SeenWithin (take reached seen) old new
+  pub tried : TriedTruly old.count (λ i. faults_at old i) (take reached seen)
+  pub above : (i : ℕ) → faults_at old i ≤ base_since old (take reached seen) i

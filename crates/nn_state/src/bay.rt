@@ -58,7 +58,9 @@ impl Bay {
     }
 }
 
-fn recover_found<H: Host>(host: &mut H, it: Found) -> Result<Settled, Stuck>
+/// Recovers one directory in the state that was found, which is its own: after this nothing is under way in it. What serves has its
+/// VERSION unless it lacked it before; where it lacks it, the answer may not fit.
+pub fn recover_found<H: Host>(host: &mut H, it: Found) -> Result<Settled, Stuck>
     requires below { (dir_of it).0 < (H.state host.old).count }
     requires there { state_of it ≢ state.NonExistent }
     requires fits { H.told → FitsFound it (disk_at (H.state host.old) (dir_of it).0) }

@@ -13,7 +13,7 @@ mod state;
 mod typed;
 
 pub use analysis::{found, table};
-pub use bay::{Bay, BayFault};
+pub use bay::{Bay, BayFault, recover_found};
 pub use reading::look;
 pub use serving::seat;
 pub use settling::Stuck;

@@ -21,6 +21,8 @@ use Rattle.nn_server.specs.Dry.{DryRan}
 use Rattle.nn_server.specs.Codes.{dry_status}
 use Rattle.nn_server.specs.Format.{FreshOrAsked, FormatDid, FormatRan, format_failed, format_status}
 use Rattle.nn_server.proofs.FormatLemmas.{asked_left}
+use Rattle.nn_generate.specs.declared.said.GenerateEnd.{GenerateEnd}
+use Rattle.nn_generate.specs.Said.{GenerateRan, generate_status}
 use Rattle.nn_top.specs.Ended.{Ended}
 use Rattle.nn_top.specs.Closes.{Closing}
 use Rattle.nn_top.proofs.ClosesLemmas.{closes_after}
@@ -49,6 +51,9 @@ state_on {a = a} {b = b} {c = c} end ran dirs = record {
 dry_on : {told told_source : Type 0} {script left : Bytes} {before after : ℕ} {a b c : State} {lines : Bytes} {trace : List Entry} (end : DryEnd) → DryRan told told_source script left before after a b lines trace end
     → TouchesNoDir told b c → DryRan told told_source script left before after a c lines trace end
 dry_on end ran dirs = record { lines = ran.lines; read = ran.read; said = ran.said; dirs = touched_on ran.dirs dirs }
+
+generate_on : {told : Type 0} {a b c : State} {lines : Bytes} {trace : List Entry} (count : ℕ) (end : GenerateEnd) → GenerateRan told count a b lines trace end → TouchesNoDir told b c → GenerateRan told count a c lines trace end
+generate_on count end ran dirs = record { said = ran.said; dirs = touched_on ran.dirs dirs }
 
 -- ---- `format`
 
@@ -116,3 +121,7 @@ format_ended cluster namespace end result lawful came closing = ended end result
 pub dry_ended : {told told_source : Type 0} {script left : Bytes} {before after : ℕ} {a b c : State} (end : DryEnd) (result : Status) → CameTo told a b dry_status (DryRan told told_source script left before after a b) end
     → Closing told b c (dry_status end) result → Ended told a c dry_status (DryRan told told_source script left before after a c) result
 dry_ended end result came closing = ended end result (λ lines trace ran. dry_on end ran closing.dirs) came closing
+
+pub generate_ended : {told : Type 0} {a b c : State} (count : ℕ) (end : GenerateEnd) (result : Status) → CameTo told a b generate_status (GenerateRan told count a b) end → Closing told b c (generate_status end) result
+    → Ended told a c generate_status (GenerateRan told count a c) result
+generate_ended count end result came closing = ended end result (λ lines trace ran. generate_on count end ran closing.dirs) came closing

@@ -12,13 +12,13 @@ use Rattle.nn_top.specs.declared.words.options.OptionName.TheVariants.{Cluster, 
 use Rattle.nn_top.specs.Words.{Word, is_plain, can_stand_apart, is_among}
 use Rattle.nn_top.specs.Parts.{Part, Given, Dir, Mark, Stray, joined_in, parts_of, is_dir, is_known, no_dirs, follow, stand_together, is_line, dir_in, dirs_among, value_in, values_of}
 use Rattle.nn_top.specs.Wanted.{Wanted, dirs_in}
-use Rattle.nn_top.specs.Commands.{states_in, dry_in, format_in, format_options, run_in, run_options, options_of, wanted_by, HaveNoReading}
+use Rattle.nn_top.specs.Commands.{states_in, dry_in, generate_in, format_in, format_options, run_in, run_options, options_of, wanted_by, HaveNoReading}
 use Rattle.nn_top.specs.Begins.{BeginWith, begins}
 use Rattle.nn_top.specs.Options.{text_of, texts_of, IsTaken}
 use Rattle.nn_top.specs.Laws.{IsOption, is_unmarked}
 use Rattle.nn_top.proofs.PartsLemmas.{plain_first, mark_first, follow_none, dirless, marked_line}
 use Rattle.nn_top.proofs.NamesLemmas.{among_names, begins_option}
-use Rattle.nn_top.proofs.ReadingLemmas.{Called, a_state, a_format, a_dry, a_run, no_command, called, read_by, unread_by}
+use Rattle.nn_top.proofs.ReadingLemmas.{Called, a_state, a_format, a_dry, a_generate, a_run, no_command, called, read_by, unread_by}
 use Rattle.nn_top.proofs.AskedLemmas.{cluster_twice, namespace_twice, at_twice}
 
 -- ---- words in front
@@ -110,6 +110,7 @@ same_parts command words other same = by (called command)
     by (a_state is) = subst (λ c. wanted_by (c ∷ words) ≡ wanted_by (c ∷ other)) (sym is) (ap states_in (at (codes "state") is))
     by (a_format is) = subst (λ c. wanted_by (c ∷ words) ≡ wanted_by (c ∷ other)) (sym is) (ap format_in (at (codes "format") is))
     by (a_dry is) = subst (λ c. wanted_by (c ∷ words) ≡ wanted_by (c ∷ other)) (sym is) (ap dry_in (at (codes "dry") is))
+    by (a_generate is) = subst (λ c. wanted_by (c ∷ words) ≡ wanted_by (c ∷ other)) (sym is) (ap generate_in (at (codes "generate") is))
     by (a_run is) = subst (λ c. wanted_by (c ∷ words) ≡ wanted_by (c ∷ other)) (sym is) (ap run_in (at (codes "run") is))
     by (no_command none) = none words ∙ sym (none other)
 
@@ -152,6 +153,7 @@ twice_none command option words is twice = by (called command)
         let found = among_names (Cluster ∷ Namespace ∷ []) option both.0 in
         subst (λ c. HaveNoReading (c ∷ words)) (sym e) (of_format found.0 found.1 found.2 both.1)
     by (a_dry e) = absurd (false≢true (at (codes "dry") e).0)
+    by (a_generate e) = absurd (false≢true (at (codes "generate") e).0)
     by (a_run e) =
         let both = at (codes "run") e in
         let found = among_names (At ∷ []) option both.0 in
@@ -217,6 +219,13 @@ option_between command dir other option value front rest plain plain' is unmarke
     (ap is_line parts
     ∙ separated_line (parts_of names (dir ∷ front)) (Given option value ∷ parts_of names (other ∷ rest)) (begins_with_dir names dir front plain) refl (begins_with_dir names other rest plain'))
 
+no_dir_first : (front parts : List Part) → no_dirs front ≡ true → begins is_dir parts ≡ false → begins is_dir (front ++ parts) ≡ false
+no_dir_first [] parts none first = first
+no_dir_first (Dir dir ∷ front) parts none first = absurd (false≢true none)
+no_dir_first (Given name value ∷ front) parts none first = refl
+no_dir_first (Mark ∷ front) parts none first = refl
+no_dir_first (Stray ∷ front) parts none first = refl
+
 pub behind_mark : (command : Word) (front dirs : List Word) (wanted : Wanted) → is_unmarked front ≡ true → dirs ≢ [] → wanted_by (command ∷ (front ++ codes "--" ∷ dirs)) ≡ Some wanted → dirs_in wanted ≡ dirs
 behind_mark command front [] wanted unmarked some asks = absurd (some refl)
 behind_mark command front (dir ∷ dirs) wanted unmarked some asks =
@@ -225,10 +234,14 @@ behind_mark command front (dir ∷ dirs) wanted unmarked some asks =
     let before = parts_of names front in
     let parts = marked_parts names front (dir ∷ dirs) unmarked in
     let line : is_line (before ++ (Mark ∷ map Dir (dir ∷ dirs))) ≡ true = ap is_line (sym parts) ∙ read.line in
-    read.dirs ∙ (ap dirs_among parts ∙ ⊎_elim
-    (λ (none : no_dirs before ≡ true). flat_map-append dir_in before (Mark ∷ map Dir (dir ∷ dirs)) ∙ (ap (λ ds. ds ++ dirs_among (map Dir (dir ∷ dirs))) (dirless before none).dirs ∙ (marked_line (dir ∷ dirs)).1))
+    ⊎_elim
+    (λ (none : no_dirs before ≡ true). ⊎_elim
+    (λ (same : dirs_in wanted ≡ dirs_among (parts_of names (front ++ codes "--" ∷ dir ∷ dirs))).
+    same ∙ (ap dirs_among parts ∙ (flat_map-append dir_in before (Mark ∷ map Dir (dir ∷ dirs)) ∙ (ap (λ ds. ds ++ dirs_among (map Dir (dir ∷ dirs))) (dirless before none).dirs ∙ (marked_line (dir ∷ dirs)).1))))
+    (λ (first : begins is_dir (parts_of names (front ++ codes "--" ∷ dir ∷ dirs)) ≡ true). absurd (true≢false (sym first ∙ (ap (begins is_dir) parts ∙ no_dir_first before (Mark ∷ map Dir (dir ∷ dirs)) none refl))))
+    read.dirs)
     (λ (has : no_dirs before ≡ false). absurd (true≢false (sym line ∙ separated_line before (Mark ∷ map Dir (dir ∷ dirs)) has refl refl)))
-    (cases_Bool (no_dirs before)))
+    (cases_Bool (no_dirs before))
 
 -- ---- other words
 

@@ -10,5 +10,7 @@ pub mod LineLemmas
 pub mod SpelledLemmas
 pub mod ClosesLemmas
 pub mod DidLemmas
+pub mod EndingLemmas
 pub mod RunLemmas
 pub mod UsageLemmas
+pub mod GenerateLemmas

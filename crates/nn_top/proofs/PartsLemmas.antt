@@ -180,7 +180,7 @@ pub ended : (names words : List Word) → IsEnd words → (list_all is_known (pa
 ended names words (inl is) = rw is (refl, refl, λ option. refl)
 ended names words (inr is) = rw is (refl, refl, λ option. refl)
 
-unended : (names words : List Word) → (IsEnd words → ⊥) → begins is_given (parts_of names words) ≡ false → (list_all is_known (parts_of names words) ≡ false) ⊎ (no_dirs (parts_of names words) ≡ false)
+pub unended : (names words : List Word) → (IsEnd words → ⊥) → begins is_given (parts_of names words) ≡ false → (list_all is_known (parts_of names words) ≡ false) ⊎ (no_dirs (parts_of names words) ≡ false)
 unended names [] more none = absurd (more (inl refl))
 unended names (word ∷ words) more none = by words (first_of names word words) more none
   where

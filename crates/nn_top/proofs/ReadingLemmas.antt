@@ -2,7 +2,7 @@
 use Rattle.std.proofs.Common.{IsTrue, subst, ◌≡◌, ◌⊎◌, ◌≤◌, ℕ, Bool, true, false, ◌&&◌, nat_le, nat_lt, ◌<◌, ◌^◌, List, [], ◌∷◌, length, codes, Option, Some, None, option_and_then, if◌then◌else◌, inl, inr, ⊎_elim, refl, sym, ap, ◌∙◌, arith}
 use Rattle.std.specs.List.{list_all}
 use Rattle.std.specs.Str.{bytes_eq}
-use Rattle.std.proofs.lemmas.Bool.{and_parts, leb-true, ltb-true, true≢false}
+use Rattle.std.proofs.lemmas.Bool.{and_parts, and_from, leb-true, ltb-true, true≢false}
 use Rattle.std.proofs.lemmas.Slice.Eq.{bytes_eq-Decides}
 use Rattle.nn_base.specs.Decimal.{is_number, number_in}
 use Rattle.std.specs.Char.{is_ascii_digit}
@@ -10,9 +10,10 @@ use Rattle.std.specs.Str.Parse.{digits_value}
 use Rattle.nn_base.specs.Words.{is_word}
 use Rattle.nn_base.specs.Limits.{most_dirs}
 use Rattle.nn_top.specs.Words.{Word, is_named, are_distinct, are_dirs}
-use Rattle.nn_top.specs.Parts.{Part, parts_of, is_line, no_dirs, dirs_among, values_of}
-use Rattle.nn_top.specs.Wanted.{Wanted, States, Format, Dry, Run, dirs_in}
-use Rattle.nn_top.specs.Commands.{states_in, dry_in, once, cluster_in, namespace_of, namespace_in, format_for, format_in, format_options, at_in, run_for, run_in, run_options, options_of, wanted_by, HaveNoReading}
+use Rattle.nn_top.specs.Parts.{Part, Given, Dir, Mark, Stray, parts_of, is_dir, is_known, follow, stand_together, is_line, no_dirs, dirs_among, values_of}
+use Rattle.nn_top.specs.Begins.{begins}
+use Rattle.nn_top.specs.Wanted.{Wanted, States, Format, Dry, Generate, Run, dirs_in}
+use Rattle.nn_top.specs.Commands.{states_in, dry_in, count_in, generate_for, generate_in, once, cluster_in, namespace_of, namespace_in, format_for, format_in, format_options, at_in, run_for, run_in, run_options, options_of, wanted_by, HaveNoReading}
 use Rattle.nn_top.proofs.PartsLemmas.{dirless}
 
 -- words that ask for something have a reading
@@ -29,25 +30,27 @@ pub data Called (command : Word) : Type 0 where
   a_state : command ≡ codes "state" → Called command
   a_format : command ≡ codes "format" → Called command
   a_dry : command ≡ codes "dry" → Called command
+  a_generate : command ≡ codes "generate" → Called command
   a_run : command ≡ codes "run" → Called command
   no_command : ((words : List Word) → HaveNoReading (command ∷ words)) → Called command
 
 pub called : (command : Word) → Called command
-called command = by (bytes_eq command (codes "state")) (bytes_eq command (codes "format")) (bytes_eq command (codes "dry")) (bytes_eq command (codes "run")) refl refl refl refl
+called command = by (bytes_eq command (codes "state")) (bytes_eq command (codes "format")) (bytes_eq command (codes "dry")) (bytes_eq command (codes "generate")) (bytes_eq command (codes "run")) refl refl refl refl refl
   where
-    by : (a b c d : Bool) → bytes_eq command (codes "state") ≡ a → bytes_eq command (codes "format") ≡ b → bytes_eq command (codes "dry") ≡ c → bytes_eq command (codes "run") ≡ d → Called command
-    by true b c d state format dry run = a_state ((bytes_eq-Decides command (codes "state")).0 state)
-    by false true c d state format dry run = a_format ((bytes_eq-Decides command (codes "format")).0 format)
-    by false false true d state format dry run = a_dry ((bytes_eq-Decides command (codes "dry")).0 dry)
-    by false false false true state format dry run = a_run ((bytes_eq-Decides command (codes "run")).0 run)
-    by false false false false state format dry run = no_command (λ words. rw state (rw format (rw dry (rw run refl))))
+    by : (a b c d e : Bool) → bytes_eq command (codes "state") ≡ a → bytes_eq command (codes "format") ≡ b → bytes_eq command (codes "dry") ≡ c → bytes_eq command (codes "generate") ≡ d → bytes_eq command (codes "run") ≡ e → Called command
+    by true b c d e state format dry generate run = a_state ((bytes_eq-Decides command (codes "state")).0 state)
+    by false true c d e state format dry generate run = a_format ((bytes_eq-Decides command (codes "format")).0 format)
+    by false false true d e state format dry generate run = a_dry ((bytes_eq-Decides command (codes "dry")).0 dry)
+    by false false false true e state format dry generate run = a_generate ((bytes_eq-Decides command (codes "generate")).0 generate)
+    by false false false false true state format dry generate run = a_run ((bytes_eq-Decides command (codes "run")).0 run)
+    by false false false false false state format dry generate run = no_command (λ words. rw state (rw format (rw dry (rw generate (rw run refl)))))
 
 -- ---- the parts of words with a reading
 
--- words behind a command, and what they ask for
+-- words behind a command, and what they ask for; the plain words among them are its directories, or the first is its number
 pub record Read (command : Word) (words : List Word) (wanted : Wanted) : Type 0 where
   pub line : is_line (parts_of (options_of command) words) ≡ true
-  pub dirs : dirs_in wanted ≡ dirs_among (parts_of (options_of command) words)
+  pub dirs : (dirs_in wanted ≡ dirs_among (parts_of (options_of command) words)) ⊎ (begins is_dir (parts_of (options_of command) words) ≡ true)
   pub allowed : (are_dirs (dirs_in wanted) ≡ true) ⊎ (dirs_in wanted ≡ [])
 
 pub if_some : {A : Type 0} (test : Bool) (found : Option A) (x : A) → (if test then found else None) ≡ Some x → (test ≡ true) × (found ≡ Some x)
@@ -67,7 +70,7 @@ read_with : (command : Word) (words : List Word) (wanted : Wanted) → (is_line 
 read_with command words wanted test dirs =
     let parts = parts_of (options_of command) words in
     let both = and_parts (is_line parts) (are_dirs (dirs_among parts)) test in
-    record { line = both.0; dirs = dirs; allowed = inl (ap are_dirs dirs ∙ both.1) }
+    record { line = both.0; dirs = inl dirs; allowed = inl (ap are_dirs dirs ∙ both.1) }
 
 read_states : (words : List Word) (wanted : Wanted) → states_in (parts_of [] words) ≡ Some wanted → Read (codes "state") words wanted
 read_states words wanted asks =
@@ -97,7 +100,27 @@ read_dry words wanted asks =
     let both = and_parts (is_line (parts_of [] words)) (no_dirs (parts_of [] words)) test.0 in
     let same : Dry ≡ wanted = let e = test.1 in cc in
     let none : dirs_in wanted ≡ [] = ap dirs_in (sym same) in
-    record { line = both.0; dirs = none ∙ sym (dirless (parts_of [] words) both.1).dirs; allowed = inr none }
+    record { line = both.0; dirs = inl (none ∙ sym (dirless (parts_of [] words) both.1).dirs); allowed = inr none }
+
+generate_dirs : (count : Option ℕ) (wanted : Wanted) → generate_for count ≡ Some wanted → dirs_in wanted ≡ []
+generate_dirs None wanted e = let no : None ≡ Some wanted = e in cc
+generate_dirs (Some count) wanted e = let same : Generate count ≡ wanted = cc in ap dirs_in (sym same)
+
+-- a number, and what may stand behind it
+generate_line : (parts : List Part) (wanted : Wanted) → generate_in parts ≡ Some wanted → (is_line parts ≡ true) × (begins is_dir parts ≡ true) × (dirs_in wanted ≡ [])
+generate_line [] wanted asks = let no : None ≡ Some wanted = asks in cc
+generate_line (Given name value ∷ parts) wanted asks = let no : None ≡ Some wanted = asks in cc
+generate_line (Mark ∷ parts) wanted asks = let no : None ≡ Some wanted = asks in cc
+generate_line (Stray ∷ parts) wanted asks = let no : None ≡ Some wanted = asks in cc
+generate_line (Dir number ∷ parts) wanted asks =
+    let count = count_in number in
+    let test = if_some (is_line parts && no_dirs parts) (generate_for count) wanted asks in
+    let both = and_parts (is_line parts) (no_dirs parts) test.0 in
+    let known = and_parts (list_all is_known parts) (stand_together parts) both.0 in
+    (and_from (list_all is_known parts) (follow parts) known.0 (dirless parts both.1).follow, refl, generate_dirs count wanted test.1)
+
+read_generate : (words : List Word) (wanted : Wanted) → generate_in (parts_of [] words) ≡ Some wanted → Read (codes "generate") words wanted
+read_generate words wanted asks = let line = generate_line (parts_of [] words) wanted asks in record { line = line.0; dirs = inr line.1; allowed = inr line.2 }
 
 pub read_by : (command : Word) (words : List Word) (wanted : Wanted) → wanted_by (command ∷ words) ≡ Some wanted → Read command words wanted
 read_by command words wanted asks = by (called command)
@@ -109,6 +132,7 @@ read_by command words wanted asks = by (called command)
     by (a_state is) = subst (λ c. Read c words wanted) (sym is) (read_states words wanted (asked (codes "state") is))
     by (a_format is) = subst (λ c. Read c words wanted) (sym is) (read_format words wanted (asked (codes "format") is))
     by (a_dry is) = subst (λ c. Read c words wanted) (sym is) (read_dry words wanted (asked (codes "dry") is))
+    by (a_generate is) = subst (λ c. Read c words wanted) (sym is) (read_generate words wanted (asked (codes "generate") is))
     by (a_run is) = subst (λ c. Read c words wanted) (sym is) (read_run words wanted (asked (codes "run") is))
     by (no_command none) = absurd (read_or_not (command ∷ words) wanted asks (none words))
 
@@ -132,6 +156,22 @@ pub few_dirs : (words : List Word) (wanted : Wanted) → wanted_by words ≡ Som
 few_dirs [] wanted asks = let no : None ≡ Some wanted = asks in cc
 few_dirs (command ∷ words) wanted asks =
     ⊎_elim (λ are. few_of (dirs_in wanted) are) (λ none. omega (arith, ap length none)) (read_by command words wanted asks).allowed
+
+-- ---- what `generate` is asked with
+
+-- `generate` asks for nothing else
+no_generate : (parts : List Part) (wanted : Wanted) → ((count : ℕ) → wanted ≡ Generate count → ⊥) → generate_in parts ≡ Some wanted → ⊥
+no_generate [] wanted other asks = let no : None ≡ Some wanted = asks in cc
+no_generate (Given name value ∷ parts) wanted other asks = let no : None ≡ Some wanted = asks in cc
+no_generate (Mark ∷ parts) wanted other asks = let no : None ≡ Some wanted = asks in cc
+no_generate (Stray ∷ parts) wanted other asks = let no : None ≡ Some wanted = asks in cc
+no_generate (Dir number ∷ parts) wanted other asks =
+    let count = count_in number in
+    by count (if_some (is_line parts && no_dirs parts) (generate_for count) wanted asks).1
+  where
+    by : (count : Option ℕ) → generate_for count ≡ Some wanted → ⊥
+    by None e = let no : None ≡ Some wanted = e in cc
+    by (Some count) e = let same : wanted ≡ Generate count = cc in other count same
 
 -- ---- what `format` is asked with
 
@@ -197,6 +237,7 @@ format_range (command ∷ words) cluster namespace dirs asks = by (called comman
     by (a_dry is) =
         let e = (if_some (is_line plain && no_dirs plain) (Some Dry) wanted (asked (codes "dry") is)).1 in
         let no : Dry ≡ Format cluster namespace dirs = cc in cc
+    by (a_generate is) = absurd (no_generate plain wanted (λ count e. cc) (asked (codes "generate") is))
     by (a_run is) =
         let at = at_in (values_of (codes "--at") timed) in
         absurd (no_run at (if_some (is_line timed && are_dirs (dirs_among timed)) (run_for at (dirs_among timed)) wanted (asked (codes "run") is)).1)
@@ -258,6 +299,7 @@ run_range (command ∷ words) at dirs asks = by (called command)
     by (a_dry is) =
         let e = (if_some (is_line plain && no_dirs plain) (Some Dry) wanted (asked (codes "dry") is)).1 in
         let no : Dry ≡ Run at dirs = cc in cc
+    by (a_generate is) = absurd (no_generate plain wanted (λ count e. cc) (asked (codes "generate") is))
     by (a_run is) =
         let time = at_in (values_of (codes "--at") timed) in
         time_small (values_of (codes "--at") timed) at (run_for_some time (dirs_among timed) at dirs (if_some (is_line timed && are_dirs (dirs_among timed)) (run_for time (dirs_among timed)) wanted (asked (codes "run") is)).1)

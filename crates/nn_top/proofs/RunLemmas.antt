@@ -1,15 +1,10 @@
 -- The record of a run over directories, from its command's end to the return: the last line keeps what was kept.
-use Rattle.std.proofs.Common.{◌≡◌, ◌≢◌, inl, inr, ⊎_elim, ℕ, ◌≤◌, ◌<◌, Bool, false, List, [], ◌∷◌, ◌++◌, take, drop, length, refl, sym, ◌∙◌, ap, subst, append_assoc, if◌then◌else◌, arith}
+use Rattle.std.proofs.Common.{◌≡◌, ◌≢◌, inl, inr, ℕ, ◌+◌, ◌≤◌, ◌<◌, Bool, List, [], ◌∷◌, ◌++◌, take, drop, length, refl, sym, ◌∙◌, ap, subst, append_assoc, arith}
 use Rattle.std.specs.List.{Contains}
-use Rattle.std.proofs.lemmas.Bool.{false≢true}
 use Rattle.std.proofs.lemmas.List.{append-nil, take-append-drop, take_all}
 use Rattle.std.proofs.lemmas.List.Elements.{All-weaker}
 use Rattle.nn_base.specs.Paths.{Bytes}
-use Rattle.nn_base.specs.declared.sub.Sub.TheVariants.{Current}
-use Rattle.nn_base.specs.declared.file_name.FileName.TheVariants.{InProgress}
-use Rattle.nn_host.specs.Moments.{Entry, Dir, Moment, State, IsLawful, faults_at}
-use Rattle.nn_host.specs.Disk.{Reads}
-use Rattle.nn_host.specs.Calls.{next_count}
+use Rattle.nn_host.specs.Moments.{Moment, State, IsLawful, faults_at}
 use Rattle.nn_host.specs.Runs.{Throughout}
 use Rattle.nn_host.proofs.RunsLemmas.{throughout_told, throughout_trans, throughout_weaker}
 use Rattle.nn_pick.specs.Opening.{Opening}
@@ -29,46 +24,13 @@ use Rattle.nn_server.specs.Came.{Speaks, CameTo}
 use Rattle.nn_serve.specs.declared.ending.RunEnd.{RunEnd}
 use Rattle.nn_serve.specs.declared.ending.RunEnd.TheVariants.{Ended, Refused, HostFault, NoneLeft, SourceFault, ScriptTooLong, Memory, OutFault}
 use Rattle.nn_serve.specs.Ended.{run_status}
-use Rattle.nn_serve.specs.Ran.{AsItStarts, NoneFailed, RunSays, RunRan, LeavesLast, CausedBy, BeginsSoundly, asked_at}
+use Rattle.nn_serve.specs.Ran.{AsItStarts, NoneFailed, RunSays, RunRan, asked_at}
 use Rattle.nn_serve.proofs.SinceLemmas.{first_long, opening_on}
 use Rattle.nn_top.specs.Lines.{last_line}
-use Rattle.nn_top.specs.Closes.{is_made, IsLast, ClosesWhole, ClosesCut, Closes, Closing}
+use Rattle.nn_top.specs.Closes.{Closes, Closing}
 use Rattle.nn_top.specs.Runs.{RunDid}
 use Rattle.nn_top.proofs.ClosesLemmas.{closes_after}
-
--- ---- last lines of a run
-
--- a status whose line needn't be made has just that line
-just_last : {last : Status} (status : Status) → is_made status ≡ false → IsLast status last → last ≡ status
-just_last status plain (inl is) = is
-just_last status plain (inr memory) = absurd (false≢true (sym plain ∙ memory.1))
-
-no_memory : Contains closing_lines (last_line outcome.Memory)
-no_memory = (4, omega arith, refl)
-
-says_stopped : {last : Status} → IsLast outcome.Stopped last → Contains closing_lines (last_line last)
-says_stopped is = rw (just_last outcome.Stopped refl is) (0, omega arith, refl)
-
-says_none_left : {last : Status} → IsLast outcome.NoneLeft last → Contains closing_lines (last_line last)
-says_none_left is = rw (just_last outcome.NoneLeft refl is) (1, omega arith, refl)
-
-says_source_fault : {last : Status} → IsLast outcome.SourceFault last → Contains closing_lines (last_line last)
-says_source_fault is = rw (just_last outcome.SourceFault refl is) (2, omega arith, refl)
-
-says_too_long : {last : Status} → IsLast outcome.ScriptTooLong last → Contains closing_lines (last_line last)
-says_too_long is = rw (just_last outcome.ScriptTooLong refl is) (3, omega arith, refl)
-
-says_memory : {last : Status} → IsLast outcome.Memory last → Contains closing_lines (last_line last)
-says_memory is = rw (just_last outcome.Memory refl is) no_memory
-
--- a run that didn't start is refused, tells of a directory that failed, or of want of memory
-says_early : {last : Status} (status : Status) → IsEarlyLine (last_line status) → IsLast status last → IsEarlyLine (last_line last)
-says_early status early (inl is) = rw is early
-says_early status early (inr memory) = rw memory.0 (inr (inr no_memory))
-
--- where the output failed before, nothing more is done
-silent_same : {told : Type 0} {b c : State} {result : Status} → Closing told b c outcome.OutFault result → c ≡ b
-silent_same closing = ⊎_elim (λ silent. silent.2) (λ said. absurd (false≢true (sym said.0))) closing.ends
+use Rattle.nn_top.proofs.EndingLemmas.{says_stopped, says_none_left, says_source_fault, says_too_long, says_memory, says_early, silent_same, caused_on, once_on, out_before, leaves_on, stopped_so}
 
 -- ---- what was kept
 
@@ -174,34 +136,7 @@ opening_after Q at ctime opened seen reached a b c text Memory tells said (inl n
 opening_after Q at ctime opened seen reached a b c text Memory tells said (inr is) closing some first = opening_more Q at ctime opened (take reached seen) a b c text (last_line closing.last) said is (throughout_told (λ u. tells) closing.fronts) first
 opening_after Q at ctime opened seen reached a b c text OutFault tells said says closing some first = subst (λ (s : State). Throughout (Unit {0}) a s (AsItStarts opened.last a Q)) (sym (silent_same closing)) first
 
--- ---- counts and reads
-
-caused_on : (a b c : State) (end : RunEnd) → ((j : ℕ) → faults_at c j ≡ faults_at b j) → CausedBy a b end → CausedBy a c end
-caused_on a b c Ended same caused = (caused.0, caused.1, same caused.0 ∙ caused.2)
-caused_on a b c (Refused refusal) same caused = record { faults = λ j. same j ∙ caused.faults j }
-caused_on a b c (HostFault i) same caused = (caused.0, same i.0 ∙ caused.1)
-caused_on a b c NoneLeft same caused = λ i below. same i ∙ caused i below
-caused_on a b c SourceFault same caused = caused
-caused_on a b c ScriptTooLong same caused = caused
-caused_on a b c Memory same caused = caused
-caused_on a b c OutFault same caused = caused
-
--- whether the output failed by the command's end, where it hadn't by the return
-out_before : {told : Type 0} {a b c : State} {text : Bytes} {result : Status} (status : Status) → Speaks told a b text status → Closing told b c status result → c.now.out_faults ≡ a.now.out_faults → b.now.out_faults ≡ a.now.out_faults
-out_before {told} {a} {b} {c} {text} {result} status speaks closing same = ⊎_elim
-    (λ silent. ap (λ (s : State). s.now.out_faults) (sym silent.2) ∙ same)
-    (λ said. speaks.counted ∙ ap (λ (failed : Bool). if failed then next_count a.now.out_faults else a.now.out_faults) said.0)
-    closing.ends
-
 -- ---- the record
-
--- what was left of sound directories by done work
-leaves_on : (at : ℕ) (a b c : State) (begins : BeginsSoundly a) (seen : List Asked) → c.now.dirs ≡ b.now.dirs → c.count ≡ b.count → ((i : ℕ) → c.reads i ≡ b.reads i) → LeavesLast (asked_at at) begins.sound.opens.version.ctime begins.sound.opened seen a b
-    → LeavesLast (asked_at at) begins.sound.opens.version.ctime begins.sound.opened seen a c
-leaves_on at a b c begins seen dirs count reads leaves = record {
-  opens = λ ahead after same listed lawful. leaves.opens ahead after (same ∙ dirs) (listed ∙ count) lawful;
-  ended = λ i first below fresh kept range. ap (λ (r : Reads). r.file Current (InProgress first)) (reads i) ∙ leaves.ended i first below fresh (sym (ap (λ (d : ℕ → Dir). (d i).faults) dirs) ∙ kept) range;
-}
 
 within_on : (a b c : State) (seen : List Asked) → ((j : ℕ) → faults_at c j ≡ faults_at b j) → SeenWithin seen a b → SeenWithin seen a c
 within_on a b c seen same within =
@@ -243,32 +178,13 @@ module _ {told told_source : Type 0} {at : ℕ} {script left : Bytes} {before af
     refused = λ tells refusal.
         let refused = ran.refused tells refusal in
         (λ is. let by = refused.0 is in (by.0, λ i. closing.dirs.reads tells i ∙ by.1 i), refused.1);
-    cause = caused_on a b c end same_faults ran.cause;
-    once = λ never i below. ⊎_elim (λ same. inl (same_faults i ∙ same)) (λ rose. inr (same_faults i ∙ rose)) (ran.once never i below);
+    cause = caused_on a b c (take ran.reached ran.seen) end same_faults ran.cause;
+    once = once_on a b c ran.seen end same_faults ran.once;
+    tried = ran.tried;
     live = (ran.live.0, within_on a b c (take ran.reached ran.seen) same_faults ran.live.1);
     complete = λ tells tells' opened opens short early unread fresh unsaid i below counted kept.
         ran.complete tells tells' opened opens short early unread fresh (out_before (run_status end) speaks closing unsaid) i below counted (sym (same_faults i) ∙ kept);
   }
-
--- only done work stops
-stopped_ended : (end : RunEnd) → run_status end ≡ outcome.Stopped → end ≡ Ended
-stopped_ended Ended is = refl
-stopped_ended (Refused refusal) is = cc
-stopped_ended (HostFault i) is = cc
-stopped_ended NoneLeft is = cc
-stopped_ended SourceFault is = cc
-stopped_ended ScriptTooLong is = cc
-stopped_ended Memory is = cc
-stopped_ended OutFault is = cc
-
-stopped_so : {told : Type 0} {a c : State} {trace : List Entry} {lines : Bytes} {result : Status} (end : RunEnd) → Closes told trace a c lines (run_status end) result → result ≡ outcome.Stopped → end ≡ Ended
-stopped_so {told} {a} {c} {trace} {lines} {result} end closes is = ⊎_elim
-    (λ (all : ClosesWhole told trace a c lines (run_status end) result). ⊎_elim
-    (λ same. stopped_ended end (sym same ∙ is))
-    (λ memory. let no : outcome.Memory ≡ outcome.Stopped = sym memory.0 ∙ is in cc)
-    all.is_last)
-    (λ (front : ClosesCut told trace a c lines (run_status end) result). let no : outcome.OutFault ≡ outcome.Stopped = sym front.failed ∙ is in cc)
-    closes
 
 -- a run over directories was closed
 pub run_did : {told told_source : Type 0} {at : ℕ} {script left : Bytes} {before after : ℕ} {a b c : State} (end : RunEnd) (result : Status) → (told → IsLawful a) → (told → IsLawful c)
@@ -277,7 +193,7 @@ run_did {told} {told_source} {at} {script} {left} {before} {after} {a} {b} {c} e
   ended = record { end = end; lines = came.lines; trace = b.trace; ran = whole; closes = closes };
   stops = λ tells begins ahead rest.
       run_kept_leaves (asked_at at) begins.sound.opens.version.ctime begins.sound.opened (whole.seen ++ rest) ahead a c (lawful tells) (whole.kept tells begins ahead rest);
-  stopped = λ tells is begins ahead. (whole.ended tells (stopped_so end closes is) begins).opens ahead c refl refl (lawful_after tells);
+  stopped = λ tells is begins. (whole.ended tells (stopped_so end closes is) begins).opens c refl refl (lawful_after tells);
 }
   where
     whole : RunRan told told_source at script left before after a c came.lines end

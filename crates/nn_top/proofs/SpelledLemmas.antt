@@ -86,7 +86,7 @@ plain_of names (word ∷ words) = ⊎_elim
 
 -- ---- the end, and the mark
 
-ends_or_not : (words : List Word) → IsEnd words ⊎ (IsEnd words → ⊥)
+pub ends_or_not : (words : List Word) → IsEnd words ⊎ (IsEnd words → ⊥)
 ends_or_not [] = inl (inl refl)
 ends_or_not (word ∷ next ∷ words) = inr (λ end. ⊎_elim (λ (none : word ∷ next ∷ words ≡ []). cc) (λ (mark : word ∷ next ∷ words ≡ codes "--" ∷ []). let no : next ∷ words ≡ [] = cc in cc) end)
 ends_or_not (word ∷ []) = ⊎_elim

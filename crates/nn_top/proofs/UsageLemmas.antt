@@ -14,6 +14,9 @@ use Rattle.nn_server.specs.declared.status.Status.TheVariants.{Usage, Memory, Ou
 use Rattle.nn_server.specs.States.{state_status}
 use Rattle.nn_server.specs.Format.{format_status}
 use Rattle.nn_server.specs.Codes.{dry_status}
+use Rattle.nn_generate.specs.declared.said.GenerateEnd.{GenerateEnd}
+use Rattle.nn_generate.specs.declared.said.GenerateEnd.TheVariants as generate
+use Rattle.nn_generate.specs.Said.{generate_status}
 use Rattle.nn_top.specs.Closes.{ClosesWhole, ClosesCut}
 use Rattle.nn_top.specs.Ended.{Ended}
 use Rattle.nn_top.specs.Did.{Unread}
@@ -44,6 +47,11 @@ dry_not_usage dry.SourceFault is = cc
 dry_not_usage dry.ScriptTooLong is = cc
 dry_not_usage dry.Memory is = cc
 dry_not_usage dry.OutFault is = cc
+
+pub generate_not_usage : (end : GenerateEnd) → generate_status end ≢ Usage
+generate_not_usage generate.Done is = cc
+generate_not_usage generate.Memory is = cc
+generate_not_usage generate.OutFault is = cc
 
 -- words without a reading end by it, unless the output fails
 pub unread_ends : {told : Type 0} {a b : State} {result : Status} → Unread told a b result → (result ≡ Usage) ⊎ (result ≡ OutFault)

@@ -3,11 +3,12 @@ use Rattle.std.specs.Prelude.{◌≡◌, ℕ, ◌&&◌, nat_le, List, [], ◌∷
 use Rattle.std.specs.Str.{bytes_eq}
 use Rattle.nn_base.specs.Decimal.{number_in}
 use Rattle.nn_base.specs.Words.{is_word}
+use Rattle.nn_generate.specs.Generated.{most_files}
 use Rattle.nn_top.specs.declared.words.Command.{Command}
 use Rattle.nn_top.specs.declared.words.Command.TheVariants as command
-use Rattle.nn_top.specs.Wanted.{Wanted, States, Format, Dry, Run}
+use Rattle.nn_top.specs.Wanted.{Wanted, States, Format, Dry, Generate, Run}
 use Rattle.nn_top.specs.Words.{Word, texts, are_dirs}
-use Rattle.nn_top.specs.Parts.{Part, parts_of, is_line, no_dirs, dirs_among, values_of}
+use Rattle.nn_top.specs.Parts.{Part, Given, Dir, Mark, Stray, parts_of, is_line, no_dirs, dirs_among, values_of}
 
 -- `state` takes directories alone
 abbrev pub states_in : List Part → Option Wanted
@@ -16,6 +17,25 @@ states_in parts = if is_line parts && are_dirs (dirs_among parts) then Some (Sta
 -- `dry` takes neither directories nor options
 abbrev pub dry_in : List Part → Option Wanted
 dry_in parts = if is_line parts && no_dirs parts then Some Dry else None
+
+-- a script is made for one file at least
+abbrev pub count_of : ℕ → Option ℕ
+count_of number = if nat_le 1 number && nat_le number most_files then Some number else None
+
+abbrev pub count_in : Word → Option ℕ
+count_in word = option_and_then count_of (number_in word)
+
+abbrev pub generate_for : Option ℕ → Option Wanted
+generate_for None = None
+generate_for (Some count) = Some (Generate count)
+
+-- `generate` takes a number, which stands first, and neither directories nor options
+abbrev pub generate_in : List Part → Option Wanted
+generate_in [] = None
+generate_in (Dir number ∷ parts) = if is_line parts && no_dirs parts then generate_for (count_in number) else None
+generate_in (Given name value ∷ parts) = None
+generate_in (Mark ∷ parts) = None
+generate_in (Stray ∷ parts) = None
 
 -- the value of an option that is given once
 abbrev pub once : List Word → Option Word
@@ -76,6 +96,7 @@ wanted_by (command ∷ words) =
     if bytes_eq command (codes "state") then states_in (parts_of [] words)
     else if bytes_eq command (codes "format") then format_in (parts_of format_options words)
     else if bytes_eq command (codes "dry") then dry_in (parts_of [] words)
+    else if bytes_eq command (codes "generate") then generate_in (parts_of [] words)
     else if bytes_eq command (codes "run") then run_in (parts_of run_options words)
     else None
 
@@ -87,4 +108,5 @@ abbrev pub wanted_in : Command → Wanted
 wanted_in (command.State dirs) = States (texts dirs.now)
 wanted_in (command.Format cluster namespace dirs) = Format cluster namespace (texts dirs.now)
 wanted_in command.Dry = Dry
+wanted_in (command.Generate count) = Generate count
 wanted_in (command.Run at dirs) = Run at (texts dirs.now)

@@ -9,7 +9,8 @@ use Rattle.nn_server.specs.States.{StateRan, state_status}
 use Rattle.nn_server.specs.Format.{FormatRan, format_status}
 use Rattle.nn_server.specs.Dry.{DryRan}
 use Rattle.nn_server.specs.Codes.{dry_status}
-use Rattle.nn_top.specs.Wanted.{Wanted, States, Format, Dry, Run}
+use Rattle.nn_generate.specs.Said.{GenerateRan, generate_status}
+use Rattle.nn_top.specs.Wanted.{Wanted, States, Format, Dry, Generate, Run}
 use Rattle.nn_top.specs.Closes.{Closes}
 use Rattle.nn_top.specs.Ended.{Ended}
 use Rattle.nn_top.specs.Runs.{RunDid}
@@ -25,4 +26,5 @@ Did told told_source left faults (States dirs) before after old new result = (af
 Did told told_source left faults (Format cluster namespace dirs) before after old new result =
     (after ≡ before) × Ended told old new format_status (λ lines trace. FormatRan told cluster namespace old new lines) result
 Did told told_source left faults Dry before after old new result = Ended told old new dry_status (DryRan told told_source (left before) (left after) (faults before) (faults after) old new) result
+Did told told_source left faults (Generate count) before after old new result = (after ≡ before) × Ended told old new generate_status (GenerateRan told count old new) result
 Did told told_source left faults (Run at dirs) before after old new result = RunDid told told_source at (left before) (left after) (faults before) (faults after) old new result

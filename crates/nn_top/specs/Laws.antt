@@ -5,7 +5,7 @@ use Rattle.std.specs.Str.{bytes_eq}
 use Rattle.nn_base.specs.Limits.{most_dirs}
 use Rattle.nn_top.specs.Words.{Word, is_plain, can_stand_apart, is_among, are_dirs}
 use Rattle.nn_top.specs.Wanted.{Wanted, States}
-use Rattle.nn_top.specs.Commands.{once, cluster_in, namespace_in, format_for, at_in, run_for, options_of}
+use Rattle.nn_top.specs.Commands.{once, cluster_in, namespace_in, format_for, at_in, run_for, options_of, count_in, generate_for}
 use Rattle.nn_top.specs.Begins.{IsEnd}
 
 -- one to eight directories, none without a name, no two with the same
@@ -83,3 +83,7 @@ AreSpelled words dirs = ((list_all is_plain dirs ≡ true) × (end : List Word) 
 -- what `state` asks for with these directories
 abbrev pub states_with : List Word → Option Wanted
 states_with dirs = if are_dirs dirs then Some (States dirs) else None
+
+-- what `generate` asks for with this number
+abbrev pub generate_with : Word → Option Wanted
+generate_with number = generate_for (count_in number)

@@ -21,7 +21,7 @@ RunsSafely at old new begins seen = (ahead : ℕ → Bool) (rest : List Asked)
 
 -- And what reads at the return, if it is fair, opens to the Book after all commands in every such choice.
 abbrev pub RunLeavesAll : ℕ → (old new : State) → BeginsSoundly old → List Asked → Type 0
-RunLeavesAll at old new begins seen = (ahead : ℕ → Bool) → OpensToLast (asked_at at) begins.sound.opens.version.ctime begins.sound.opened ahead seen old new
+RunLeavesAll at old new begins seen = OpensToLast (asked_at at) begins.sound.opened seen old new
 
 -- A run that begins at this time over a source with this script, of which so much is left.
 pub record RunDid (told told_source : Type 0) (at : ℕ) (script left : Bytes) (before after : ℕ) (old new : State) (result : Status) : Type 0 where

@@ -9,6 +9,8 @@ pub data Wanted : Type 0 where
   Format : Bytes → ℕ → List Bytes → Wanted
   -- a script on a namespace in memory alone
   Dry : Wanted
+  -- the script of so many generated files, which is said
+  Generate : ℕ → Wanted
   -- a script on the namespace that these directories hold, from this time on
   Run : ℕ → List Bytes → Wanted
 
@@ -17,4 +19,5 @@ abbrev pub dirs_in : Wanted → List Bytes
 dirs_in (States dirs) = dirs
 dirs_in (Format cluster namespace dirs) = dirs
 dirs_in Dry = []
+dirs_in (Generate count) = []
 dirs_in (Run at dirs) = dirs

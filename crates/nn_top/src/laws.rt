@@ -7,7 +7,7 @@ ghost use Rattle.nn_top.specs.Parts.{Stray, joined_in};
 ghost use Rattle.nn_top.specs.Wanted.{Wanted, Dry, dirs_in};
 ghost use Rattle.nn_top.specs.Commands.{options_of, wanted_by, HaveNoReading};
 ghost use Rattle.nn_top.specs.Begins.{IsEnd};
-ghost use Rattle.nn_top.specs.Laws.{AreDirs, IsOption, is_unmarked, GivenOption, can_be_given, spelling, TakesOptions, asked_with, IsSpelled, AreSpelled, states_with};
+ghost use Rattle.nn_top.specs.Laws.{AreDirs, IsOption, is_unmarked, GivenOption, can_be_given, spelling, TakesOptions, asked_with, IsSpelled, AreSpelled, states_with, generate_with};
 
 /// An option of `format` or of `run` is `--name=VALUE` or `--name VALUE`: both are read alike, where the value doesn't begin with
 /// `-`.
@@ -54,7 +54,7 @@ pub fn options_stand_around_directories()
         (choices : List GivenOption) × (dirs : List W) × (list_all (can_be_given command) choices ≡ true) × IsSpelled words choices dirs × (asked_with command choices dirs ≡ Some wanted) }
 {}
 
-/// A reading has one to eight directories, none without a name and no two with the same, or none at all, as `dry` has.
+/// A reading has one to eight directories, none without a name and no two with the same, or none at all, as `dry` and `generate` have.
 pub fn directories_are_few_named_and_distinct()
     ensures read { (words : List W) (wanted : Wanted) → wanted_by words ≡ Some wanted → (dirs_in wanted ≡ []) ⊎ AreDirs (dirs_in wanted) }
     ensures test { (dirs : List W) → (are_dirs dirs ≡ true) ↔ AreDirs dirs }
@@ -66,4 +66,11 @@ pub fn lines_without_options_are_directories()
     ensures only { (words : List W) (wanted : Wanted) → wanted_by (codes "state" ∷ words) ≡ Some wanted → (dirs : List W) × AreSpelled words dirs × (states_with dirs ≡ Some wanted) }
     ensures dry { (words : List W) → IsEnd words → wanted_by (codes "dry" ∷ words) ≡ Some Dry }
     ensures only_dry { (words : List W) (wanted : Wanted) → wanted_by (codes "dry" ∷ words) ≡ Some wanted → (wanted ≡ Dry) × IsEnd words }
+{}
+
+/// The lines of `generate` that have a reading are those of a number, and of nothing behind it but perhaps a `--`.
+pub fn generate_takes_a_number_alone()
+    ensures read { (number : W) (end : List W) → IsEnd end → wanted_by (codes "generate" ∷ number ∷ end) ≡ generate_with number }
+    ensures only { (words : List W) (wanted : Wanted) → wanted_by (codes "generate" ∷ words) ≡ Some wanted →
+        (number : W) × (end : List W) × IsEnd end × (words ≡ number ∷ end) × (generate_with number ≡ Some wanted) }
 {}

@@ -9,6 +9,7 @@ ghost use Rattle.nn_server.specs.States.{StateRan, state_status};
 ghost use Rattle.nn_server.specs.Format.{FormatRan, format_status};
 ghost use Rattle.nn_server.specs.Dry.{DryRan};
 ghost use Rattle.nn_server.specs.Codes.{dry_status};
+ghost use Rattle.nn_generate.specs.Said.{GenerateRan, generate_status};
 ghost use Rattle.nn_top.specs.Words.{texts};
 ghost use Rattle.nn_top.specs.Wanted.{dirs_in};
 ghost use Rattle.nn_top.specs.Commands.{wanted_by, HaveNoReading};
@@ -20,6 +21,7 @@ ghost use Rattle.nn_top.specs.Closes.{is_made, IsLast, last_call, Closing};
 
 use crate::words::{Command, command_of};
 use nn_base::{DirNo, NoMemory, Word};
+use nn_generate::say_script;
 use nn_host::{Failed, Host, MOST_SAID, Source};
 use nn_server::{Status, dry, format, state};
 use std::alloc::Global;
@@ -51,6 +53,7 @@ pub fn namenode<H: Host, S: Source>(
             ..
         } => run_format(alloc, host, cluster, *namespace),
         Command::Dry => run_dry(alloc, host, source),
+        Command::Generate { count } => run_generate(alloc, host, *count),
         Command::Run { at, .. } => run_dirs(alloc, host, source, *at),
     }
 }
@@ -80,6 +83,14 @@ fn run_dry<H: Host, S: Source>(alloc: Global, host: &mut H, source: &mut S) -> S
         (H.state host.old) (H.state host.new)) result }
 {
     let end = dry(alloc, host, source);
+    close(alloc, host, end.status())
+}
+
+fn run_generate<H: Host>(alloc: Global, host: &mut H, count: u32) -> Status
+    ensures { Ended H.told (H.state host.old) (H.state host.new) generate_status
+        (GenerateRan H.told count (H.state host.old) (H.state host.new)) result }
+{
+    let end = say_script(alloc, host, count);
     close(alloc, host, end.status())
 }
 

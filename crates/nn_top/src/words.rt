@@ -10,11 +10,13 @@ ghost use Rattle.nn_top.specs.Wanted.{dirs_in};
 ghost use Rattle.nn_top.specs.Commands.{states_in, dry_in, wanted_by, HaveNoReading, wanted_in};
 
 mod format;
+mod generate;
 mod line;
 mod options;
 mod run;
 
 use format::format_asked;
+use generate::generate_asked;
 use line::line_of;
 use nn_base::Word;
 use nn_base::limits::MOST_DIRS;
@@ -38,6 +40,10 @@ pub enum Command<'a> {
     },
     /// `dry`: a script on a namespace in memory alone. It has no directories.
     Dry,
+    /// `generate N`: the script of N generated files, which is said. It has no directories.
+    Generate {
+        count: u32,
+    },
     /// `run --at T DIRS`: a script on the namespace that the directories hold, where the clock is at T milliseconds at first, or
     /// at 0.
     Run {
@@ -80,7 +86,7 @@ impl<'a> Command<'a> {
             Command::State { dirs } | Command::Format { dirs, .. } | Command::Run { dirs, .. } => {
                 dirs
             }
-            Command::Dry => &[],
+            Command::Dry | Command::Generate { .. } => &[],
         }
     }
 }
@@ -99,6 +105,9 @@ pub fn command_of(words: &[String]) -> Option<Command<'_>>
     }
     if command.as_str() == "dry" {
         return dry_asked(later);
+    }
+    if command.as_str() == "generate" {
+        return generate_asked(later);
     }
     if command.as_str() == "run" {
         return run_asked(later);

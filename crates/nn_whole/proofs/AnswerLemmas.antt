@@ -1,11 +1,12 @@
 -- How the answers to lines begin.
-use Rattle.std.proofs.Common.{◌≡◌, ◌⊎◌, inl, inr, ℕ, suc, zero, Bool, false, List, [], ◌∷◌, ◌++◌, length, refl, ap, Ok, Err, Some, None, Option, Result}
+use Rattle.std.proofs.Common.{◌≡◌, ◌⊎◌, inl, inr, ℕ, suc, zero, Bool, true, false, nat_lt, if◌then◌else◌, List, [], ◌∷◌, ◌++◌, length, refl, ap, Ok, Err, Some, None, Option, Result}
 use Rattle.std.specs.List.{flat_map}
 use Rattle.nn_base.specs.Paths.{Bytes, Names, text_of as path_text}
 use Rattle.nn_ops.specs.declared.refusal.OpRefusal.{OpRefusal}
 use Rattle.nn_ops.specs.Step.{step}
 use Rattle.nn_script.specs.declared.answer.Answer.{Answer}
 use Rattle.nn_script.specs.declared.answer.Answer.TheVariants as answer
+use Rattle.nn_script.specs.declared.answer.Unrestored.TheVariants as unrestored
 use Rattle.nn_script.specs.declared.command.ScriptCommand.{ScriptCommand}
 use Rattle.nn_script.specs.declared.command.ScriptCommand.TheVariants as command
 use Rattle.nn_script.specs.declared.syntax.Syntax.{Syntax}
@@ -20,7 +21,7 @@ use Rattle.nn_tree.specs.declared.node.Kind.{Kind}
 use Rattle.nn_tree.specs.declared.node.Kind.TheVariants.{File, Dir}
 use Rattle.nn_tree.specs.declared.node.Node.{Node}
 use Rattle.nn_tree.specs.Namespace.{Nodes, usage_of}
-use Rattle.nn_run.specs.Running.{Running, Sight, reply_read, reply_in}
+use Rattle.nn_run.specs.Running.{Running, Sight, Restored, TakenBack, Missing, Inconsistent, Failed, restored_text, reply_read, reply_in}
 
 -- with `o`, `r`, `d` or `f`, or with `sy`
 pub record BeginsWith (first : ℕ) (text : Bytes) : Type 0 where
@@ -40,6 +41,7 @@ answer_so (answer.Count count) = inl (record { rest = _; is = refl })
 answer_so (answer.Refused why) = inr (inl (record { rest = _; is = refl }))
 answer_so answer.Dry = inr (inl (record { rest = _; is = refl }))
 answer_so answer.Later = inr (inl (record { rest = _; is = refl }))
+answer_so (answer.NotRestored why) = inr (inl (record { rest = _; is = refl }))
 answer_so (answer.Unread fault) = inr (inr (inr (inr (unread_so fault))))
   where
     unread_so : (fault : Syntax) → BeginsSy (answer_text (answer.Unread fault))
@@ -104,6 +106,13 @@ dirs_so live (suc n) = before_more _ (answer_text answer.Done) (some_so n)
     some_so zero = inr (inr (inl (record { rest = _; is = refl })))
     some_so (suc n) = before_more (dir_lines live (suc n)) (dir_line (suc n) (live (suc n))) (some_so n)
 
+restored_so : (listed : Bool) (restored : Restored) → IsAnswer (if listed then restored_text restored else answer_text (answer.NotRestored unrestored.NoSuchDir))
+restored_so true TakenBack = answer_so answer.Done
+restored_so true Missing = answer_so (answer.NotRestored unrestored.Missing)
+restored_so true Inconsistent = answer_so (answer.NotRestored unrestored.Inconsistent)
+restored_so true Failed = answer_so (answer.NotRestored unrestored.Failed)
+restored_so false restored = answer_so (answer.NotRestored unrestored.NoSuchDir)
+
 command_so : (count : ℕ) (run : Running) (sight : Sight) (it : ScriptCommand) → IsAnswer (reply_in count run sight it).text
 command_so count run sight (command.Namespace change) = change_so (step run.book.ns change run.now).refusal
 command_so count run sight (command.Clock time) = answer_so answer.Done
@@ -112,7 +121,7 @@ command_so count run sight command.Dirs = dirs_so sight.live count
 command_so count run sight command.Roll = answer_so answer.Done
 command_so count run sight command.Checkpoint = answer_so answer.Done
 command_so count run sight command.Finalize = answer_so answer.Later
-command_so count run sight (command.Restore dir) = answer_so answer.Later
+command_so count run sight (command.Restore dir) = restored_so (nat_lt dir count) sight.restored
 
 pub read_so : (count : ℕ) (run : Running) (sight : Sight) (line : Bytes) → has_no_answer line ≡ false → IsAnswer (reply_read count run sight (reading_of line)).text
 unfolding reading_of

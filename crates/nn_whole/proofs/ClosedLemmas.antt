@@ -6,13 +6,13 @@ use Rattle.std.proofs.lemmas.List.{append-nil}
 use Rattle.std.proofs.lemmas.Slice.Eq.{bytes_eq-Decides}
 use Rattle.nn_base.specs.Paths.{Bytes}
 use Rattle.nn_host.specs.Disk.{Disk, Settle, disk_after}
-use Rattle.nn_host.specs.Moments.{Dir, Moment, State}
+use Rattle.nn_host.specs.Moments.{Dir, Moment, State, faults_at}
 use Rattle.nn_host.proofs.RunsLemmas.{throughout_trans, throughout_weaker}
 use Rattle.nn_pick.specs.Opening.{Opening}
 use Rattle.nn_kept.specs.Kept.{Shared}
 use Rattle.nn_kept.specs.Laws.{IsKeptDisk, AllKept}
 use Rattle.nn_run.specs.Running.{Asked, after_asked}
-use Rattle.nn_run.specs.Window.{Answered, commands_of, text_of, begins_with, whole_in, books, said_since, is_of_run, is_held, has_started}
+use Rattle.nn_run.specs.Window.{Answered, commands_of, text_of, begins_with, whole_in, books, said_since, base_behind, base_at, is_of_run, is_held, has_started}
 use Rattle.nn_run.specs.Course.{RunAsked, Course, commands, first_of, opening_of, answers_of, course_of, IsAsAtEntry, run_at, held_at, IsKeptInRun}
 use Rattle.nn_run.proofs.LineLemmas.{commands_append, commands_have_text}
 use Rattle.nn_run.proofs.WindowLemmas.{none_whole, whole_behind}
@@ -23,22 +23,23 @@ use Rattle.nn_whole.proofs.ServedLemmas.{text_append, since_said}
 -- ---- moments that look alike
 
 -- the same directories, as many answers said whole, and the opening said or not: then what holds at the one holds at the other
-module _ (course : Course) (old : State) (k m : Moment) (same : m.dirs ≡ k.dirs) (whole : whole_in (commands course) (said_since old m) ≡ whole_in (commands course) (said_since old k))
-    (started : has_started course.opening old m ≡ has_started course.opening old k) where
-  entry_same : IsAsAtEntry old k → IsAsAtEntry old m
+module _ (course : Course) (old : State) (other m : Moment) (same : m.dirs ≡ other.dirs) (whole : whole_in (commands course) (said_since old m) ≡ whole_in (commands course) (said_since old other))
+    (started : has_started course.opening old m ≡ has_started course.opening old other) where
+  entry_same : IsAsAtEntry old other → IsAsAtEntry old m
   entry_same entry = record { at = λ j. subst (λ (dirs : ℕ → Dir). IsAsAt j (dirs j).disk) (sym same) (entry.at j) }
     where
       IsAsAt : ℕ → Disk → Type 0
       IsAsAt j d = (d ≡ (old.now.dirs j).disk) ⊎ (d ≡ disk_after Settle (old.reads j) (old.now.dirs j).disk)
 
-  kept_same : (shared : Shared) → AllKept shared old.count (run_at course old k) (held_at course old k) k → AllKept shared old.count (run_at course old m) (held_at course old m) m
+  kept_same : (shared : Shared) → AllKept shared old.count (run_at course old other) (held_at course old other) other → AllKept shared old.count (run_at course old m) (held_at course old m) m
   kept_same shared all = record {
     at = λ j below.
-        subst (λ (s : Bool). IsKeptDisk shared (is_of_run course.chosen s old j (m.dirs j)) (is_held course.ahead course.chosen s old j (m.dirs j)) (m.dirs j).disk) (sym started)
-        (subst (λ (dirs : ℕ → Dir). IsKeptDisk shared (run_at course old k j (dirs j)) (held_at course old k j (dirs j)) (dirs j).disk) (sym same) (all.at j below));
+        subst (λ (s : Bool). IsKeptDisk shared (is_of_run course.chosen s (λ i. base_at (commands course) old m i) j (m.dirs j)) (is_held course.ahead course.chosen s old j (m.dirs j)) (m.dirs j).disk) (sym started)
+        (subst (λ (k : ℕ). IsKeptDisk shared (is_of_run course.chosen (has_started course.opening old other) (λ i. base_behind (λ n. faults_at old n) (take k (commands course)) i) j (m.dirs j)) (held_at course old other j (m.dirs j)) (m.dirs j).disk) (sym whole)
+        (subst (λ (dirs : ℕ → Dir). IsKeptDisk shared (run_at course old other j (dirs j)) (held_at course old other j (dirs j)) (dirs j).disk) (sym same) (all.at j below)));
   }
 
-  pub alike_kept : IsKeptInRun course old k → IsKeptInRun course old m
+  pub alike_kept : IsKeptInRun course old other → IsKeptInRun course old m
   alike_kept is = elim is [
     | inl before ↦ inl (record { answered = whole ∙ before.answered; disks = entry_same before.disks })
     | inr kept ↦ inr (kept.0, (λ b there. subst (λ j. Contains (take (suc course.batch) (drop j (books course.entry (commands course)))) b) (sym whole) (kept.1 b there)), kept_same kept.0 kept.2)

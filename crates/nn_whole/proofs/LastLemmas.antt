@@ -8,7 +8,7 @@ use Rattle.nn_pick.specs.declared.refusal.Refusal.TheVariants as refused
 use Rattle.nn_pick.specs.Lines.{refusal_line}
 use Rattle.nn_pick.specs.Opening.{Opening}
 use Rattle.nn_script.specs.Lines.{has_no_answer}
-use Rattle.nn_run.specs.Running.{Running, Asked, reply_at}
+use Rattle.nn_run.specs.Running.{Running, Asked, reply_at, back_at}
 use Rattle.nn_run.specs.Window.{Answered, commands_of, whole_in, begins_with, text_of}
 use Rattle.nn_run.specs.Course.{RunAsked, opening_of, begun_book}
 use Rattle.nn_run.proofs.WindowLemmas.{not_whole}
@@ -72,10 +72,10 @@ closing_apart : (last : Bytes) → Contains closing_lines last → AreApart last
 closing_apart last there = one_of AreApart (apart_s 116 _ refl) (apart_n _) (apart_s 111 _ refl) (apart_s 99 _ refl) (apart_n _) last there
 
 whole_by : (count : ℕ) (run : Running) (asked : Asked) (lines : List Asked) (last : Bytes) (n : ℕ) → AreApart last → (none : Bool) → has_no_answer asked.line ≡ none → ((r : Running) → whole_in (commands_of count r lines) (take n last) ≡ 0)
-    → whole_in (if none then commands_of count run lines else record { text = (reply_at count run asked).text; book = (reply_at count run asked).after.book } ∷ commands_of count (reply_at count run asked).after lines) (take n last) ≡ 0
+    → whole_in (if none then commands_of count run lines else record { text = (reply_at count run asked).text; book = (reply_at count run asked).after.book; back = back_at count asked } ∷ commands_of count (reply_at count run asked).after lines) (take n last) ≡ 0
 whole_by count run asked lines last n apart true e rest = rest run
 whole_by count run asked lines last n apart false e rest =
-    not_whole (record { text = (reply_at count run asked).text; book = (reply_at count run asked).after.book }) (commands_of count (reply_at count run asked).after lines) (take n last)
+    not_whole (record { text = (reply_at count run asked).text; book = (reply_at count run asked).after.book; back = back_at count asked }) (commands_of count (reply_at count run asked).after lines) (take n last)
     (apart (reply_at count run asked).text n (read_so count run asked.sight asked.line e))
 
 none_whole_in : (count : ℕ) (run : Running) (lines : List Asked) (last : Bytes) (n : ℕ) → AreApart last → whole_in (commands_of count run lines) (take n last) ≡ 0

@@ -10,13 +10,15 @@ use Rattle.nn_host.proofs.RunsLemmas.{throughout_both, throughout_trans, through
 use Rattle.nn_pick.specs.Opening.{Book, Opening}
 use Rattle.nn_kept.specs.Laws.{IsPartOf, KeptInto}
 use Rattle.nn_run.specs.Running.{Asked, after_asked}
-use Rattle.nn_run.specs.Window.{Answered, commands_of, text_of, last_book, window, said_since, is_unfailed, has_started}
+use Rattle.nn_run.specs.Window.{Answered, commands_of, text_of, last_book, window, whole_in, said_since, is_unfailed_since, base_behind, base_at, base_since, has_started}
 use Rattle.nn_run.specs.Course.{RunAsked, Course, begun_book, commands, first_of, opening_of, answers_of, course_of, run_window, run_at, held_at, IsKeptInRun}
 use Rattle.nn_run.specs.Steps.{is_of_step}
 use Rattle.nn_run.specs.Loop.{HasCome}
 use Rattle.nn_run.proofs.LineLemmas.{commands_append, commands_have_text, last_is_reached}
 use Rattle.nn_run.proofs.StepLemmas.{fewer_kept}
-use Rattle.nn_run.proofs.WindowLemmas.{entry_in_window, window_behind}
+use Rattle.nn_run.proofs.WindowLemmas.{none_whole, entry_in_window, window_behind}
+use Rattle.nn_run.proofs.BaseLemmas.{base_past}
+use Rattle.nn_run.proofs.LoopLemmas.{come_base}
 use Rattle.nn_whole.specs.Served.{IsSeenAt}
 use Rattle.nn_whole.specs.Ended.{book_after}
 use Rattle.nn_whole.specs.Leaving.{AreTheLines, MoreIsSaid, EndingIsKept}
@@ -89,27 +91,35 @@ module _ (asked : RunAsked) (ctime : ℕ) (opened : Opening) (ahead live holders
         let whole = subst (λ w. Contains w b) (sym (window_behind asked.batch opened.book first others [])) here in
         subst (λ x. Contains (window asked.batch opened.book (commands course) x) b) (sym since) (subst (λ cs. Contains (window asked.batch opened.book cs (text_of first ++ [])) b) (sym split) whole)
 
-    record Unfailed (i : ℕ) : Type 0 where
-      same : faults_at s i ≡ faults_at old i
-      alive : live i ≡ true
-      still : is_unfailed s i (m.dirs i) ≡ true
+    -- behind the answers to the lines so far the counts are those behind the lines
+    based_here : (i : ℕ) → base_at (commands course) old m i ≡ base_since old done i
+    based_here i =
+        ap (λ bytes. base_behind (λ j. faults_at old j) (take (whole_in (commands course) bytes) (commands course)) i) since
+        ∙ ap (λ cs. base_behind (λ j. faults_at old j) (take (whole_in cs (text_of first ++ [])) cs) i) split ∙ base_past (λ j. faults_at old j) first others [] i
+        ∙ ap (λ k. base_behind (λ j. base_behind (λ n. faults_at old n) first j) (take k others) i) (none_whole others (commands_have_text old.count (after_asked old.count (first_of asked opened) done) later)) ∙ come_base asked ctime opened done old i
 
-    unfailed : (i : ℕ) → i < old.count → is_unfailed old i (m.dirs i) ≡ true → Unfailed i
-    unfailed i below e =
-        let parts = and_parts (nat_lt (faults_at old i) (2 ^ 64 - 1)) (nat_le (m.dirs i).faults (faults_at old i)) e in
-        let room : faults_at old i < 2 ^ 64 - 1 = grind (parts.0, arith, nat_tests) in
-        let few : (m.dirs i).faults ≤ faults_at old i = leb-true _ _ parts.1 in
-        let same : faults_at s i ≡ faults_at old i = omega (arith, few, come.grown i, counted i) in
-        record { same = same; alive = come.alive i below same room; still = subst (λ k. (nat_lt k (2 ^ 64 - 1) && nat_le (m.dirs i).faults k) ≡ true) (sym same) e }
+    is_step : (i : ℕ) → i < old.count → is_unfailed_since (base_since old done i) (m.dirs i) ≡ true → is_of_step live s i (m.dirs i) ≡ true
+    is_step i below e =
+        let parts = and_parts (nat_lt (base_since old done i) (2 ^ 64 - 1)) (nat_le (m.dirs i).faults (base_since old done i)) e in
+        let room : base_since old done i < 2 ^ 64 - 1 = grind (parts.0, arith, nat_tests) in
+        let few : (m.dirs i).faults ≤ base_since old done i = leb-true _ _ parts.1 in
+        let same : faults_at s i ≡ base_since old done i = omega (arith, few, (come.based i).1, counted i) in
+        and_from _ _ (come.alive i below room (omega (arith, same))) (subst (λ k. is_unfailed_since k (m.dirs i) ≡ true) (sym same) e)
 
     run_is_step : (i : ℕ) → i < old.count → run_at course old m i (m.dirs i) ≡ true → is_of_step live s i (m.dirs i) ≡ true
-    run_is_step i below e = let it = unfailed i below (and_parts (has_started course.opening old m || course.chosen i) (is_unfailed old i (m.dirs i)) e).1 in and_from _ _ it.alive it.still
+    run_is_step i below e =
+        let unfailed = (and_parts (has_started course.opening old m || course.chosen i) (is_unfailed_since (base_at (commands course) old m i) (m.dirs i)) e).1 in
+        is_step i below (subst (λ k. is_unfailed_since k (m.dirs i) ≡ true) (based_here i) unfailed)
 
     held_is_step : (i : ℕ) → i < old.count → held_at course old m i (m.dirs i) ≡ true → (holders i && is_of_step live s i (m.dirs i)) ≡ true
     held_is_step i below e =
-        let parts = and_parts (course.ahead i) (run_at course old m i (m.dirs i)) e in
-        let it = unfailed i below (and_parts (has_started course.opening old m || course.chosen i) (is_unfailed old i (m.dirs i)) parts.1).1 in
-        and_from _ _ (come.held i below parts.0 it.same) (and_from _ _ it.alive it.still)
+        let parts = and_parts (course.ahead i) ((has_started course.opening old m || course.chosen i) && is_unfailed_since (faults_at old i) (m.dirs i)) e in
+        let unfailed : is_unfailed_since (faults_at old i) (m.dirs i) ≡ true = (and_parts (has_started course.opening old m || course.chosen i) (is_unfailed_since (faults_at old i) (m.dirs i)) parts.1).1 in
+        let low = and_parts (nat_lt (faults_at old i) (2 ^ 64 - 1)) (nat_le (m.dirs i).faults (faults_at old i)) unfailed in
+        let few : (m.dirs i).faults ≤ faults_at old i = leb-true _ _ low.1 in
+        let same : faults_at s i ≡ faults_at old i = omega (arith, few, (come.based i).0, (come.based i).1, counted i) in
+        let level : base_since old done i ≡ faults_at old i = omega (arith, same, (come.based i).0, (come.based i).1) in
+        and_from _ _ (come.held i below parts.0 same) (is_step i below (subst (λ k. is_unfailed_since k (m.dirs i) ≡ true) (sym level) unfailed))
 
     pub ending_moment : IsKeptInRun course old m
     ending_moment = inr (kept.0, part, fewer_kept kept.0 old.count (is_of_step live s) (λ i d. holders i && is_of_step live s i d) (run_at course old m) (held_at course old m) m kept.2 run_is_step held_is_step)

@@ -1,5 +1,5 @@
 -- How a run begins: the opening is kept while it is said.
-use Rattle.std.proofs.Common.{◌≡◌, ◌≢◌, inl, inr, ℕ, suc, zero, ◌+◌, ◌-◌, ◌<◌, ◌≤◌, max, Bool, true, false, ◌&&◌, ◌||◌, List, [], ◌∷◌, ◌++◌, length, take, drop, map, refl, sym, ◌∙◌, ap, subst, arith}
+use Rattle.std.proofs.Common.{◌≡◌, ◌≢◌, inl, inr, ℕ, suc, zero, ◌+◌, ◌-◌, ◌<◌, ◌≤◌, max, Bool, true, false, ◌&&◌, ◌||◌, None, List, [], ◌∷◌, ◌++◌, length, take, drop, map, refl, sym, ◌∙◌, ap, subst, arith}
 use Rattle.std.specs.Prelude.{All, Contains, is_none}
 use Rattle.std.proofs.Math.Seq.{drop-append_seam, take-append-add}
 use Rattle.std.proofs.lemmas.List.{length-take, append-nil}
@@ -52,10 +52,10 @@ abbrev pub upgrading : RunAsked → Bool → RunAsked
 upgrading asked upgrade = record { upgrade = upgrade; at = asked.at; batch = asked.batch }
 
 abbrev pub says_upgraded : RunAsked → ℕ → Book → Answered
-says_upgraded asked ctime book = record { text = upgraded_line (max asked.at (ctime + 1)); book = book }
+says_upgraded asked ctime book = record { text = upgraded_line (max asked.at (ctime + 1)); book = book; back = None }
 
 abbrev pub says_started : Opening → Book → Answered
-says_started opened book = record { text = started_line opened.last; book = book }
+says_started opened book = record { text = started_line opened.last; book = book; back = None }
 
 abbrev pub HasText : Answered → Type 0
 HasText a = a.text ≢ []

@@ -1,5 +1,5 @@
 -- How answered lines add up: what was said, who is live, and what was seen.
-use Rattle.std.proofs.Common.{◌≡◌, ◌⊎◌, inl, inr, ℕ, ◌+◌, ◌-◌, ◌<◌, ◌≤◌, ◌^◌, Bool, true, false, if◌then◌else◌, List, [], ◌∷◌, ◌++◌, length, take, drop, refl, sym, ◌∙◌, ap, subst, arith, append_assoc}
+use Rattle.std.proofs.Common.{◌≡◌, ◌⊎◌, inl, inr, ℕ, ◌+◌, ◌-◌, ◌<◌, ◌≤◌, ◌^◌, Bool, true, false, if◌then◌else◌, List, [], ◌∷◌, ◌++◌, length, take, drop, Some, None, refl, sym, ◌∙◌, ap, subst, arith, append_assoc}
 use Rattle.std.proofs.Math.Seq.{drop-append_seam}
 use Rattle.std.proofs.lemmas.List.{append-nil, length-append, length-take, length-drop}
 use Rattle.std.proofs.lemmas.Grind.{flat_map-append}
@@ -9,12 +9,16 @@ use Rattle.nn_host.specs.Runs.{Throughout}
 use Rattle.nn_host.proofs.RunsLemmas.{throughout_refl, throughout_both, throughout_trans, throughout_weaker}
 use Rattle.nn_pick.specs.Opening.{Opening}
 use Rattle.nn_script.specs.Lines.{has_no_answer}
-use Rattle.nn_run.specs.Running.{Running, Asked, SeesLive, reply_at, reply_read, after_asked}
-use Rattle.nn_run.specs.Window.{Answered, commands_of, text_of, said_since}
+use Rattle.nn_script.specs.Reading.{reading_of}
+use Rattle.std.proofs.lemmas.Bool.{cases_Bool}
+use Rattle.nn_run.specs.Running.{Running, Asked, SeesLive, SeeLive, reply_at, reply_read, after_asked, restored_dir, back_at, is_back}
+use Rattle.nn_run.specs.Window.{Answered, commands_of, text_of, said_since, base_since}
 use Rattle.nn_run.specs.Course.{RunAsked, first_of, opening_of, answers_of}
 use Rattle.nn_run.specs.Steps.{HasAnswered}
+use Rattle.nn_run.specs.Loop.{AreBased, AreAlive}
 use Rattle.nn_run.proofs.LineLemmas.{read_none, commands_append}
-use Rattle.nn_whole.specs.Served.{IsSeenAt, HasSaid, SaysLast, FirstIsSaid, NextIsSaid, SilentIsSaid}
+use Rattle.nn_run.proofs.BaseLemmas.{base_next, base_stays, back_base, none_back}
+use Rattle.nn_whole.specs.Served.{IsSeenAt, HasSaid, AreNarrowed, SaysLast, FirstIsSaid, NextIsSaid, SilentIsSaid}
 
 -- ---- lists with one more
 
@@ -43,7 +47,7 @@ one_text : (count : ℕ) (run : Running) (asked : Asked) → text_of (commands_o
 one_text count run asked = by_answer (has_no_answer asked.line) refl
   where
     by_answer : (none : Bool) → has_no_answer asked.line ≡ none
-        → text_of (if none then [] else record { text = (reply_at count run asked).text; book = (reply_at count run asked).after.book } ∷ []) ≡ (reply_at count run asked).text
+        → text_of (if none then [] else record { text = (reply_at count run asked).text; book = (reply_at count run asked).after.book; back = back_at count asked } ∷ []) ≡ (reply_at count run asked).text
     by_answer true e = sym (ap (λ r. (reply_read count run asked.sight r).text) (read_none asked.line e))
     by_answer false e = append-nil (reply_at count run asked).text
 
@@ -92,7 +96,7 @@ first_is_said asked ctime opened live old s new all_live same quiet says whole =
     (throughout_weaker says (λ t m is. (is.1, is.2 ∙ ap (λ x. x ++ take is.1 (text_of (opening_of asked ctime opened))) quiet.now.said))) in record {
       said = whole ∙ ap (λ x. x ++ text_of (opening_of asked ctime opened)) quiet.now.said ∙ ap (λ t. old.now.said ++ t) opening;
       fronts = throughout_weaker run (λ t m is. omega (arith, ap length (since_said old m (take is.0 (text_of (opening_of asked ctime opened))) is.1), length-take is.0 (text_of (opening_of asked ctime opened)), ap length opening));
-      grown = λ i. omega (arith, moved i);
+      based = λ i. (omega arith, omega (arith, moved i));
       counted = λ i below room e. moved i;
       alive = λ i below room e. all_live i below;
       seen = record {
@@ -106,7 +110,7 @@ first_is_said asked ctime opened live old s new all_live same quiet says whole =
 module _ (asked : RunAsked) (ctime : ℕ) (opened : Opening) (live live_after : ℕ → Bool) (done : List Asked) (next : Asked) (after : Running) (old s new : State)
     (has : HasSaid asked ctime opened live done old s) (answered : HasAnswered (Unit {0}) old.count (after_asked old.count (first_of asked opened) done) after live live_after next s new)
     (says : SaysLast (reply_at old.count (after_asked old.count (first_of asked opened) done) next).text s new) (rise : (i : ℕ) → faults_at s i ≤ faults_at new i)
-    (narrow : (i : ℕ) → i < old.count → live_after i ≡ true → (live i ≡ true) × (faults_at new i ≡ faults_at s i)) where
+    (narrow : AreNarrowed old.count live live_after next s new) where
   abbrev all_of : List Asked → Bytes
   all_of lines = answers_of asked old.count ctime opened lines
 
@@ -132,26 +136,48 @@ module _ (asked : RunAsked) (ctime : ℕ) (opened : Opening) (live live_after : 
   fronts_now = throughout_trans (throughout_weaker has.fronts (λ t m short. omega (arith, short, long)))
       (throughout_weaker says (λ t m is. omega (arith, since_step m is.0.0 is.0.1, length-take is.0.0 text, long)))
 
-  counted_now : (i : ℕ) → i < old.count → faults_at old i < 2 ^ 64 - 1 → live_after i ≡ true → faults_at new i ≡ faults_at old i
-  counted_now i below room e = let was = narrow i below e in was.1 ∙ has.counted i below room was.0
+  -- the count is moved for the directory that the line took back, to what was seen then, and for no other
+  moves : (i : ℕ) → ((base_since old (done ++ next ∷ []) i ≡ base_since old done i) × (is_back (back_at old.count next) i ≡ false)) ⊎ ((base_since old (done ++ next ∷ []) i ≡ faults_at new i) × (is_back (back_at old.count next) i ≡ true))
+  moves i = elim (cases_Bool (is_back (back_at old.count next) i)) [
+    | inl back ↦ inr (base_next old done next i ∙ back_base old.count (λ j. base_since old done j) next i back ∙ answered.sees_faults i, back)
+    | inr not ↦ inl (base_next old done next i ∙ base_stays (λ j. base_since old done j) (back_at old.count next) i not, not)
+  ]
 
-  alive_now : (i : ℕ) → i < old.count → faults_at old i < 2 ^ 64 - 1 → faults_at new i ≡ faults_at old i → live_after i ≡ true
-  alive_now i below room e =
-      let same : faults_at s i ≡ faults_at old i = omega (arith, e, rise i, has.grown i) in
-      let still : faults_at s i < 2 ^ 64 - 1 = omega (arith, same, room) in
-      (answered.counted i below still).1 (e ∙ sym same, has.alive i below room same)
+  based_now : AreBased old new (λ i. base_since old (done ++ next ∷ []) i)
+  based_now i = elim (moves i) [
+    | inl stays ↦ (omega (arith, stays.0, (has.based i).0), omega (arith, stays.0, (has.based i).1, rise i))
+    | inr back ↦ (omega (arith, back.0, (has.based i).0, (has.based i).1, rise i), omega (arith, back.0))
+  ]
+
+  counted_now : (i : ℕ) → i < old.count → base_since old (done ++ next ∷ []) i < 2 ^ 64 - 1 → live_after i ≡ true → faults_at new i ≡ base_since old (done ++ next ∷ []) i
+  counted_now i below room e = elim (moves i) [
+    | inl stays ↦ elim (narrow i below e) [
+      | inl was ↦ was.1 ∙ has.counted i below (omega (arith, stays.0, room)) was.0 ∙ sym stays.0
+      | inr back ↦ absurd (cc (stays.1, back))
+    ]
+    | inr back ↦ sym back.0
+  ]
+
+  alive_now : AreAlive old.count live_after new (λ i. base_since old (done ++ next ∷ []) i)
+  alive_now i below room few =
+      let still : faults_at s i < 2 ^ 64 - 1 = omega (arith, few, rise i, room) in
+      (answered.counted i below still).1 (elim (moves i) [
+        | inl stays ↦ inl (omega (arith, few, rise i, stays.0, (has.based i).1), has.alive i below (omega (arith, stays.0, room)) (omega (arith, few, rise i, stays.0)))
+        | inr back ↦ inr back.1
+      ])
 
   -- ---- what was seen at it
 
-  sees : SeesLive old.count (λ i. faults_at old i) next.sight
+  sees : SeesLive old.count (λ i. base_since old (done ++ next ∷ []) i) next.sight
   sees i below room = (
     λ e. omega (arith, answered.sees_faults i, counted_now i below room (sym (answered.sees_live i) ∙ e)),
-    λ few. answered.sees_live i ∙ alive_now i below room (omega (arith, few, answered.sees_faults i, rise i, has.grown i)),
+    λ few. answered.sees_live i ∙ alive_now i below room (omega (arith, few, answered.sees_faults i)),
   )
 
-  live_now : (before : List Asked) (line : Asked) (later : List Asked) → done ++ next ∷ [] ≡ before ++ line ∷ later → SeesLive old.count (λ i. faults_at old i) line.sight
+  live_now : SeeLive old.count (λ i. faults_at old i) (done ++ next ∷ [])
   live_now before line later e = elim (last_split done next before line later e) [
-    | inl it ↦ subst (λ (x : Asked). SeesLive old.count (λ i. faults_at old i) x.sight) (sym it.1) sees
+    | inl it ↦ subst (λ b. SeesLive old.count (λ i. base_since old (b ++ line ∷ []) i) line.sight) (sym it.0)
+        (subst (λ (x : Asked). SeesLive old.count (λ i. base_since old (done ++ x ∷ []) i) x.sight) (sym it.1) sees)
     | inr it ↦ has.seen.live before line it.0 it.1
   ]
 
@@ -180,7 +206,7 @@ next_is_said asked ctime opened live live_after done next after old s new has an
   record {
     said = said_now asked ctime opened live live_after done next after old s new has answered says rise narrow;
     fronts = fronts_now asked ctime opened live live_after done next after old s new has answered says rise narrow;
-    grown = λ i. omega (arith, has.grown i, rise i);
+    based = based_now asked ctime opened live live_after done next after old s new has answered says rise narrow;
     counted = counted_now asked ctime opened live live_after done next after old s new has answered says rise narrow;
     alive = alive_now asked ctime opened live live_after done next after old s new has answered says rise narrow;
     seen = record {
@@ -201,9 +227,22 @@ silent_is_said asked ctime opened live done next old s none sees_live sees_fault
     let answered : HasAnswered (Unit {0}) old.count run run live live next s s = record {
       said = λ t. sym (ap (λ x. s.now.said ++ x) text ∙ append-nil s.now.said);
       goes_on = sym after;
-      counted = λ i below room. (λ e. (refl, e), λ both. both.1);
+      counted = λ i below room. (
+        λ e. inl (refl, e),
+        λ either. elim either [
+          | inl both ↦ both.1
+          | inr back ↦ absurd (none_taken i back)
+        ],
+      );
       sees_live = sees_live;
       sees_faults = sees_faults;
+      sees_restored = λ i below e. absurd (none_asked i e);
     } in
-    let both = next_is_said asked ctime opened live live done next run old s s has answered (throughout_refl (λ t. ((0, sym (append-nil s.now.said)), inl refl))) (λ i. omega arith) (λ i below e. (e, refl)) in
+    let both = next_is_said asked ctime opened live live done next run old s s has answered (throughout_refl (λ t. ((0, sym (append-nil s.now.said)), inl refl))) (λ i. omega arith) (λ i below e. inl (e, refl)) in
     (both.0, sym both.1)
+  where
+    none_taken : (i : ℕ) → is_back (back_at old.count next) i ≡ true → ⊥
+    none_taken i e = absurd (cc (ap (λ back. is_back back i) (none_back old.count next none), e))
+
+    none_asked : (i : ℕ) → restored_dir (reading_of next.line) ≡ Some i → ⊥
+    none_asked i e = let no : None ≡ Some i = sym (ap restored_dir (read_none next.line none)) ∙ e in absurd (cc no)

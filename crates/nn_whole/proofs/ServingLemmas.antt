@@ -28,8 +28,8 @@ pub come_of : (asked : RunAsked) (ctime : ℕ) (opened : Opening) (ahead live ho
 come_of asked ctime opened ahead live holders done old s least serving = record {
   batch = least;
   said = serving.said.said;
-  grown = serving.said.grown;
-  alive = λ i below same room. serving.said.alive i below room same;
+  based = serving.said.based;
+  alive = serving.said.alive;
   held = serving.held;
 }
 
@@ -44,7 +44,7 @@ serving_next asked ctime opened ahead live live_after holders done next after ol
     let said = next_is_said asked ctime opened live live_after done next after old s new serving.said answered says rise narrow in (
       record {
         said = said.0;
-        held = λ i below e still. serving.held i below e (omega (arith, still, rise i, serving.said.grown i));
+        held = λ i below e still. serving.held i below e (omega (arith, still, rise i, (serving.said.based i).0, (serving.said.based i).1));
         kept = λ later. kept_next asked ctime opened ahead live holders done next later old s new least serving step;
       },
       said.1,

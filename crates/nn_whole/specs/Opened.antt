@@ -1,7 +1,7 @@
 -- How a run begins: what is shared where it does, that its opening was kept, and that it is said.
 use Rattle.std.specs.Prelude.{◌≡◌, ◌⊎◌, ℕ, ◌<◌, ◌≤◌, Bool, true, false, ◌||◌, List, [], ◌∷◌, is_none}
 use Rattle.nn_base.specs.Paths.{Bytes}
-use Rattle.nn_host.specs.Moments.{State}
+use Rattle.nn_host.specs.Moments.{State, faults_at}
 use Rattle.nn_host.specs.Runs.{Throughout, Unspoken}
 use Rattle.nn_marks.specs.declared.version.Version.{Version}
 use Rattle.nn_tree.specs.Namespace.{Namespace}
@@ -39,7 +39,7 @@ SharedAtFirst = (dirs : Dirs) (intent : Intent) (sound : AreSound dirs intent) �
 -- An opening that has said nothing, and of which each moment is as at entry or keeps the Book at entry, is one of the run, whatever lines are to come.
 abbrev pub StartIsOfRun : Type 0
 StartIsOfRun = (asked : RunAsked) (ctime : ℕ) (opened : Opening) (ahead : ℕ → Bool) (rest : List Bytes) (old s : State) → 1 ≤ asked.batch → Unspoken (Unit {0}) old s
-    → Throughout (Unit {0}) old s (λ m. IsAsAtEntry old m ⊎ KeptInto (λ _. opened.book ∷ []) old.count (λ _. is_of_run opened.chosen false old) (λ _. is_held ahead opened.chosen false old) m)
+    → Throughout (Unit {0}) old s (λ m. IsAsAtEntry old m ⊎ KeptInto (λ _. opened.book ∷ []) old.count (λ _. is_of_run opened.chosen false (λ i. faults_at old i)) (λ _. is_held ahead opened.chosen false old) m)
     → KeptSoFar asked ctime opened ahead [] rest old s
 
 -- Then it is said that the run has started, where all directories are live and those that had a saved state ahead still have it: so each moment is kept.

@@ -5,7 +5,7 @@ ghost use Rattle.nn_whole.specs.Closed.{ClosingAnswersNone, EarlyAnswersNone, Cl
 ghost use Rattle.nn_whole.specs.Ended.{EndedOpens};
 ghost use Rattle.nn_whole.specs.Stopped.{EntryIsLeft, RunKeptLeaves};
 ghost use Rattle.nn_whole.specs.Served.{FirstIsSaid, NextIsSaid, SilentIsSaid, ServingFirst, ServingNext, ServingSilent, ServingOut};
-ghost use Rattle.nn_whole.specs.Counted.{FirstIsSeen, NextIsCounted, NextIsSeen, FewLines};
+ghost use Rattle.nn_whole.specs.Counted.{FirstIsSeen, NextIsCounted, OutIsCounted, NextIsSeen, FewLines};
 
 /// Sound directories share something with which a run can begin, so no claim of a run needs one of the caller's.
 pub fn sound_directories_share()
@@ -112,7 +112,12 @@ pub fn at_first_all_are_seen()
     ensures { FirstIsSeen }
 {}
 
-/// A step that was not answered drops those that failed in it.
+/// The step of a line that was not answered can make the one live that was to be taken back.
+pub fn the_unanswered_line_is_counted()
+    ensures { OutIsCounted }
+{}
+
+/// A step of no line drops those that failed in it.
 pub fn the_next_step_is_counted()
     ensures { NextIsCounted }
 {}

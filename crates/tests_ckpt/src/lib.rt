@@ -1,7 +1,10 @@
-//! Tests of checkpoints and of what they purge, through the public calls of `nn_ckpt`, over a host in memory.
+//! Tests of checkpoints, of what they purge, and of directories that are taken back, through the public calls of `nn_ckpt` and
+//! `nn_restore`, over a host in memory.
 #![tactic(auto)]
 
 #[cfg(test)]
 mod checkpoints;
+#[cfg(test)]
+mod restores;
 #[cfg(test)]
 mod run;

@@ -1,4 +1,4 @@
-// A run over directories in memory that is checkpointed.
+// A run over directories in memory that is checkpointed, and whose dropped directories are taken back.
 ghost use Rattle.std.specs.Prelude.{◌≡◌, ◌<◌, ◌≤◌, ℕ, true, false, [], IfOk};
 ghost use Rattle.nn_base.specs.DirSets.{has};
 ghost use Rattle.nn_memhost.specs.Mem.{mem_state};
@@ -11,6 +11,7 @@ use nn_journal::JournalSet;
 use nn_load::load_dir;
 use nn_marks::version_read;
 use nn_memhost::{MemHost, Part};
+use nn_restore::{Restored, restore};
 use nn_tree::{PlainTree, Tree};
 use std::alloc::Global;
 use tests_kit::texts::{DIGEST_0, IMAGE_0, VERSION};
@@ -44,7 +45,11 @@ pub struct Run {
 impl Run {
     /// So many directories, the first of which has these files too, with a segment in progress. The calls fail as the list says.
     pub fn begun(alloc: Global, count: u8, more: &[File], fails: Vec<(u64, Part)>) -> Option<Run> {
-        let mut host = made(alloc, count, more, fails)?;
+        Run::of(alloc, made(alloc, count, more, fails)?)
+    }
+
+    /// These directories, with a segment in progress.
+    pub fn of(alloc: Global, mut host: MemHost) -> Option<Run> {
         match over(alloc, &host) {
             Ok(mut journal) => {
                 let started = journal.start_segment(&mut host).is_ok();
@@ -78,6 +83,32 @@ impl Run {
         answer
     }
 
+    /// Drops this directory. Whether it was live, and another is left.
+    pub fn drops(&mut self, i: DirNo) -> bool {
+        if i.0 >= 8 || !self.journal.live(i) || self.journal.last().0 >= MOST_IDS {
+            return false;
+        }
+        self.journal.drop_dir(&mut self.host, i).is_ok()
+    }
+
+    /// Takes this directory back at the empty namespace; none where no segment is in progress, or there is no such directory.
+    pub fn restores(&mut self, alloc: Global, i: DirNo) -> Option<Result<Restored, RunFault>> {
+        if !self.started
+            || i.0 >= 8
+            || i.0 >= self.host.count()
+            || self.journal.last().0 >= MOST_IDS
+        {
+            return None;
+        }
+        let Ok(tree) = PlainTree::new(alloc) else {
+            return None;
+        };
+        let version = version_read(VERSION).ok()?;
+        let answer = restore(alloc, &mut self.host, &mut self.journal, &tree, &version, i);
+        self.started = answer.is_ok();
+        Some(answer)
+    }
+
     fn once(&mut self, alloc: Global) -> Option<Result<Txid, RunFault>> {
         if !self.started || self.journal.last().0 >= MOST_IDS {
             return None;
@@ -92,8 +123,8 @@ impl Run {
     }
 }
 
-// So many directories with the empty namespace, the first of which has these files too.
-fn made(alloc: Global, count: u8, more: &[File], fails: Vec<(u64, Part)>) -> Option<MemHost> {
+/// So many directories with the empty namespace, the first of which has these files too.
+pub fn made(alloc: Global, count: u8, more: &[File], fails: Vec<(u64, Part)>) -> Option<MemHost> {
     if count > 8 {
         return None;
     }

@@ -3,6 +3,8 @@ ghost use Rattle.std.specs.Prelude.{◌≡◌, ◌≤◌, ◌<◌, OnOk};
 ghost use Rattle.nn_memhost.specs.Mem.{mem_state};
 
 mod checkpoints;
+mod generate;
+mod restores;
 mod running;
 mod scripts;
 

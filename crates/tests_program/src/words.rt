@@ -229,6 +229,53 @@ fn dry_takes_no_directories_and_no_options(rt: HostRuntime) -> Result<(), Fail> 
     Ok(())
 }
 
+fn count_of(command: Option<&Command<'_>>) -> Option<u32> {
+    match command {
+        Some(Command::Generate { count }) => Some(*count),
+        _ => None,
+    }
+}
+
+#[test]
+fn generate_takes_a_number_and_nothing_else(rt: HostRuntime) -> Result<(), Fail> {
+    let lines = [
+        ("generate 1", Some(1)),
+        ("generate 500000", Some(500_000)),
+        ("generate 0000000000000000005", Some(5)),
+        ("generate 5 --", Some(5)),
+        ("generate", None),
+        ("generate ", None),
+        ("generate --", None),
+        ("generate 0", None),
+        ("generate 500001", None),
+        ("generate 00000000000000000005", None),
+        ("generate -5", None),
+        ("generate +5", None),
+        ("generate 5x", None),
+        ("generate -- 5", None),
+        ("generate 5 -- 6", None),
+        ("generate 5 -- --", None),
+        ("generate 5 6", None),
+        ("generate 5 -", None),
+        ("generate 5 ", None),
+        ("generate --at 5", None),
+        ("generate 5 --at 5", None),
+        ("generate --count 5", None),
+        ("-- generate 5", None),
+        ("dry 5", None),
+    ];
+    for (line, count) in lines {
+        let words = split(rt.alloc(), line)?;
+        assert_eq!(rt; count_of(command_of(&words).as_ref()), count, "{line}");
+        assert_eq!(rt;
+            dirs_of(rt.alloc(), &words).is_ok(),
+            count.is_some(),
+            "{line}"
+        );
+    }
+    Ok(())
+}
+
 fn is_read(command: Option<&Command<'_>>, id: &[u8], number: u32) -> bool {
     match command {
         Some(

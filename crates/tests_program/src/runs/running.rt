@@ -77,9 +77,9 @@ const TALES: [Tale; 8] = [
     },
     Tale {
         words: "run A B",
-        script: "finalize\nrestore 0\nmkdri /a\n# none\n\nmkdir a\n",
+        script: "finalize\nrestore 2\nmkdri /a\n# none\n\nmkdir a\n",
         next: "",
-        said: "started 0\nrefused later\nrefused later\nsyntax unknown\nsyntax path relative\nstopped\nstarted 2\nstopped\n",
+        said: "started 0\nrefused later\nrefused no-such-dir\nsyntax unknown\nsyntax path relative\nstopped\nstarted 2\nstopped\n",
     },
     Tale {
         words: "run A B",
@@ -163,7 +163,10 @@ fn a_run_leaves_finalized_segments_and_the_image_that_it_began_with(
 }
 
 // How many calls a format of two directories makes, and with a run of no script behind it all of them.
-fn calls_of_an_empty_run(rt: &impl Abort, alloc: Global) -> Result<(u64, u64), NoMemory> {
+pub(super) fn calls_of_an_empty_run(
+    rt: &impl Abort,
+    alloc: Global,
+) -> Result<(u64, u64), NoMemory> {
     let mut host = fresh(rt, alloc, &[])?;
     let formatted = host.calls();
     let _status = run_script(rt, alloc, "run A B", "", &mut host)?;
@@ -325,7 +328,7 @@ fn a_run_whose_source_fails_has_answered_the_lines_before(rt: HostRuntime) -> Re
 }
 
 // How many directories a listing names below the root.
-fn listed(said: &[u8]) -> usize {
+pub(super) fn listed(said: &[u8]) -> usize {
     said.split(|byte| *byte == b'\n')
         .filter(|line| line.starts_with(b"d 163") && !line.ends_with(b" /"))
         .count()

@@ -1,4 +1,5 @@
 use Rattle.std.proofs.Common.{refl, sym, ◌∙◌, ap}
+use Rattle.nn_run.specs.Running.{Failed}
 use Rattle.nn_core.specs.Events.{asked_at as seen_at, read_as}
 use Rattle.nn_serve.specs.Turns.{read_of}
 use Rattle.nn_serve.proofs.OutLemmas.{out_memory}
@@ -10,7 +11,7 @@ returns-in-Ok-None-clause-turns g c = λ at seen old whole more alike serving ro
     let core = c.args.core.now in
     let s = g.H.Host.state c.args.host.now in
     let it = silent at core.count core.version (g.T.Tree.meaning core.tree) core.time core.journal seen old s serving whole (sym alike ∙ c.in-Ok-None.ensures.reads ∙ ap read_of c.in-Ok-None.field-0-is) more room in
-    (seen_at whole core.journal.live s, refl, it.0, it.1)
+    (seen_at whole Failed core.journal.live s, refl, it.0, it.1)
 
 pub returns-in-Ok-Some-clause-turns : goal.returns-in-Ok-Some-clause-turns
 returns-in-Ok-Some-clause-turns g c = λ at seen old whole more alike serving room.
@@ -23,4 +24,4 @@ pub returns-in-Err-clause-turns : goal.returns-in-Err-clause-turns
 returns-in-Err-clause-turns g c = λ at seen old whole more alike serving room.
     let core = c.args.core.now in
     let s = g.H.Host.state c.args.host.now in
-    (seen_at whole core.journal.live s, refl, out_memory at core.count core.version (g.T.Tree.meaning core.tree) core.time core.journal seen old s serving whole)
+    (seen_at whole Failed core.journal.live s, refl, out_memory at core.count core.version (g.T.Tree.meaning core.tree) core.time core.journal seen old s serving whole)

@@ -21,7 +21,7 @@ returns-in-Ok-clause-stepped g c =
     let after = c.checkpoint.new.journal in
     let among : (j : ℕ) → has core.journal.live j ≡ true → j < a.count = λ j e. (let below = c.requires.ready.below j e in let listed = c.requires.ready.listed in omega (arith, below, listed)) in
     stepped_as c.unless_failed.ensures (synced_step (Ok (Some Checkpoint)) core.version core.journal after core.count ns ns core.time a b (g.H.Host.state c.say.new.host) (answer_text Done) c.say.result
-    (λ e. cc) (λ sight. refl) c.requires.ready.listed
+    (λ e. cc) (λ i below e. cc) (λ sight. refl) c.requires.ready.listed
     (λ tells ids stands. saving_comes core.version core.journal after ns a b (Ok c.in-Ok.field-0) c.in-Ok.ensures.checkpoints among (λ room. omega (arith, room, c.in-Ok.ensures.last, at_most_eight core.journal.live)) tells ids stands)
     c.in-Ok.ensures.went
     (ready_as c.requires.ready.listed (record { listed = c.in-Ok.ensures.went.quiet.each.count; below = λ j e. (let below = c.in-Ok.ensures.below j e in let same = c.in-Ok.ensures.went.quiet.each.count in omega (arith, below, same)); going = c.in-Ok.ensures.going; empty = c.in-Ok.ensures.kept.2; fit = c.in-Ok.ensures.kept.3 }))
@@ -38,7 +38,7 @@ returns-in-Err-NoneLeft-clause-stepped g c =
     let b = g.H.Host.state c.checkpoint.new.host in
     let after = c.checkpoint.new.journal in
     let among : (j : ℕ) → has core.journal.live j ≡ true → j < a.count = λ j e. (let below = c.requires.ready.below j e in let listed = c.requires.ready.listed in omega (arith, below, listed)) in
-    none_left_step (Ok (Some Checkpoint)) core.version core.journal after core.count ns ns core.time a b (answer_text Done) (λ e. cc) (λ sight. refl) c.requires.ready.listed
+    none_left_step (Ok (Some Checkpoint)) core.version core.journal after core.count ns ns core.time a b (answer_text Done) (λ e. cc) (λ i below e. cc) (λ sight. refl) c.requires.ready.listed
     (λ tells ids stands. saving_goes core.version core.journal after ns a b c.checkpoint.result c.checkpoint.ensures.checkpoints among (λ room. omega (arith, room, c.checkpoint.ensures.last, at_most_eight core.journal.live)) tells ids stands)
     c.checkpoint.ensures.went
     (record { writes = inl (inr refl); adds = λ takes same small. absurd (cc takes.1); last = omega (arith, c.checkpoint.ensures.last); begins = λ roll. absurd (cc roll) })
@@ -53,7 +53,7 @@ returns-in-Err-Memory-clause-stepped g c =
     let b = g.H.Host.state c.checkpoint.new.host in
     let after = c.checkpoint.new.journal in
     let among : (j : ℕ) → has core.journal.live j ≡ true → j < a.count = λ j e. (let below = c.requires.ready.below j e in let listed = c.requires.ready.listed in omega (arith, below, listed)) in
-    unsaved_step (Ok (Some Checkpoint)) core.version core.journal after core.count ns ns core.time a b (answer_text Done) (λ e. cc) (λ sight. refl) c.requires.ready.listed
+    unsaved_step (Ok (Some Checkpoint)) core.version core.journal after core.count ns ns core.time a b (answer_text Done) (λ e. cc) (λ i below e. cc) (λ sight. refl) c.requires.ready.listed
     (λ tells ids stands. saving_goes core.version core.journal after ns a b c.checkpoint.result c.checkpoint.ensures.checkpoints among (λ room. omega (arith, room, c.checkpoint.ensures.last, at_most_eight core.journal.live)) tells ids stands)
     c.checkpoint.ensures.went
     (record { writes = inl (inr refl); adds = λ takes same small. absurd (cc takes.1); last = omega (arith, c.checkpoint.ensures.last); begins = λ roll. absurd (cc roll) })

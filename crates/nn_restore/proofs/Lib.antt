@@ -1,0 +1,9 @@
+pub mod EmptyLemmas
+pub mod AsideLemmas
+pub mod BehindLemmas
+pub mod MadeLemmas
+pub mod PartsLemmas
+pub mod FindLemmas
+pub mod MakingLemmas
+pub mod TakenLemmas
+pub mod RestoresLemmas

@@ -1,0 +1,3 @@
+pub mod Emptying
+pub mod Making
+pub mod Restored
