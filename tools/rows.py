@@ -524,6 +524,47 @@ def a_segment_is_never_the_output_where_descriptors_are_closed(place):
         place.says(f"run {name}", "", f"started {last}|stopped")
 
 
+# Generated scripts.
+
+
+def generated(count):
+    """The lines of a script for so many files, by docs/OPERATING.md."""
+    for k in range(count):
+        folder = f"/g{k // 100}"
+        if k % 100 == 0:
+            yield f"mkdir {folder}\n"
+        yield f"create {folder}/f{k} 3\n"
+        yield f"block {folder}/f{k} {1 + k * 9000 % 134217728}\n"
+        yield f"close {folder}/f{k}\n"
+
+
+@row
+def a_script_is_said_for_a_number_of_files(place):
+    place.says("generate 2", "", "mkdir /g0|create /g0/f0 3|block /g0/f0 1|close /g0/f0|create /g0/f1 3|block /g0/f1 9001|close /g0/f1")
+    for words, count in (("generate 101", 101), ("generate 30000 --", 30000), ("generate 500000", 500000)):
+        # A difference shows its status and its length.
+        said, status = place.call(words, "mkdir /a\n")
+        wanted = "".join(generated(count))
+        same(f"`{words}`", (status, len(said), said == wanted), (0, len(wanted), True))
+    same("what is there", os.listdir(place.path), [])
+
+
+@row
+def a_generated_script_is_taken_by_dry_and_by_a_run(place):
+    script = place.call("generate 150")[0]
+    answers = "ok|" * 452
+    place.says("dry", script, answers)
+    place.formatted("A B")
+    place.says("run A B", script, f"started 0|{answers}stopped")
+    place.says("run A B", "list /g1/f149\n", "started 454|f 16537 0644 hdfs supergroup 0 3 closed 1 1341001 /g1/f149|b 1073741974 1150 1341001|ok 1|stopped")
+
+
+@row
+def an_output_that_is_full_ends_generate_by_8(place):
+    with open("/dev/full", "wb") as full:
+        place.says("generate 500000", "", "", 8, stdout=full)
+
+
 # A person at the terminal. Where one of these lines can't be written, nothing changes.
 
 FORMS = {
@@ -531,6 +572,7 @@ FORMS = {
     "format": "namenode format --cluster C --namespace N DIR..",
     "dry": "namenode dry < SCRIPT",
     "run": "namenode run [--at T] DIR.. < SCRIPT",
+    "generate": "namenode generate N",
 }
 EVERY_FORM = "\n       ".join(FORMS.values())
 
@@ -554,6 +596,13 @@ UNREAD = (
     (("run", "--batch=0", "A"), "unexpected argument '--batch' found\n\n  tip: a similar argument exists: '--at'"),
     (("state", "-x"), "unexpected argument '-x' found\n\n  tip: to pass '-x' as a value, use '-- -x'"),
     (("dry", "A"), "unexpected argument 'A' found"),
+    (("generate",), "the following required arguments were not provided:\n  <N>"),
+    (("generate", "0"), "'generate' takes a number from 1 to 500000, and not '0'"),
+    (("generate", "500001"), "'generate' takes a number from 1 to 500000, and not '500001'"),
+    (("generate", "--", "5"), "'generate' takes a number from 1 to 500000, and not '--'"),
+    (("generate", "2", "A"), "unexpected argument 'A' found"),
+    (("generate", "2", "--", "A"), "unexpected argument 'A' found"),
+    (("generate", "--batch=5"), "unexpected argument '--batch' found"),
     (("format", "--cluster", "c1", "A"), "the following required arguments were not provided:\n  --namespace <N>"),
     (("format", "--cluster", "-", "--namespace", "7", "A"), "'--cluster' takes a value, and '-' behind it begins with '-'"),
     (("format", "--cluster=a b", "--namespace", "7", "A"), "'--cluster' takes 1 to 255 bytes that print, without spaces, and not 'a b'"),
