@@ -359,6 +359,19 @@ def a_directory_whose_sync_fails_is_dropped_and_topped_up_later(place):
 
 
 @row
+def a_dropped_directory_is_taken_back_by_its_line(place):
+    place.formatted("A B")
+    failing = place.failing("fdatasync", "EIO", 2, f"B/current/{in_progress(1)}")
+    said = "started 0|ok|dir 0 live|dir 1 dropped|ok|ok|dir 0 live|dir 1 live|ok|stopped"
+    place.says_failing(failing, "run A B", "mkdir /a\ndirs\nrestore 1\ndirs\n", said)
+    place.holds("A", *images(0), edits(1, 3), edits(4, 5), edits(6, 7))
+    place.holds("B", *images(5), edits(6, 7))
+    place.has("B/current/seen_txid", b"6\n")
+    # Alone it opens to all that was answered.
+    place.says("run B", "list /a\n", "started 7|d 16386 0755 hdfs supergroup 0 - - 1 0 /a|ok 1|stopped")
+
+
+@row
 def a_run_whose_last_directory_fails_ends(place):
     place.formatted("A")
     failing = place.failing("fdatasync", "EIO", 3, f"A/current/{in_progress(1)}")
@@ -448,6 +461,28 @@ def a_folder_that_goes_away_is_dropped_at_the_next_roll(place):
     same("the end", talk.ends(), ("stopped\n", 0))
     os.rename(place.at("gone"), place.at("B"))
     place.says("run A B", "list /b\n", "started 8|d 16387 0755 hdfs supergroup 0 - - 1 0 /b|ok 1|stopped")
+
+
+@row
+def a_folder_that_comes_back_is_taken_back_once_it_is_whole(place):
+    place.formatted("A B")
+    talk = Talk(place, "run A B")
+    talk.asks("mkdir /a", "ok")
+    os.rename(place.at("B"), place.at("gone"))
+    talk.asks("roll", "ok")
+    talk.asks("restore 1", "refused missing")
+    os.rename(place.at("gone"), place.at("B"))
+    os.makedirs(place.at("B", "removed.tmp"))
+    os.makedirs(place.at("B", "previous"))
+    talk.asks("restore 1", "refused inconsistent")
+    talk.asks("restore 2", "refused no-such-dir")
+    os.rmdir(place.at("B", "removed.tmp"))
+    talk.asks("restore 1", "ok")
+    same("what is left of B's folders", os.listdir(place.at("B")), ["current"])
+    talk.asks("mkdir /b", "ok")
+    same("the end", talk.ends(), ("stopped\n", 0))
+    last = reader.Chain(place.at("B", "current")).last
+    place.says("run B", "list /b\n", f"started {last}|d 16387 0755 hdfs supergroup 0 - - 1 0 /b|ok 1|stopped")
 
 
 @row
@@ -602,7 +637,7 @@ UNREAD = (
     (("generate", "--", "5"), "'generate' takes a number from 1 to 500000, and not '--'"),
     (("generate", "2", "A"), "unexpected argument 'A' found"),
     (("generate", "2", "--", "A"), "unexpected argument 'A' found"),
-    (("generate", "--batch=5"), "unexpected argument '--batch' found"),
+    (("generate", "--batch=5"), "unexpected argument '--batch' found\n\n  tip: to pass '--batch' as a value, use '-- --batch'"),
     (("format", "--cluster", "c1", "A"), "the following required arguments were not provided:\n  --namespace <N>"),
     (("format", "--cluster", "-", "--namespace", "7", "A"), "'--cluster' takes a value, and '-' behind it begins with '-'"),
     (("format", "--cluster=a b", "--namespace", "7", "A"), "'--cluster' takes 1 to 255 bytes that print, without spaces, and not 'a b'"),

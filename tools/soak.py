@@ -50,7 +50,7 @@ class Soak:
         book.now = 0
         books, lines, answers = [book.copy()], [], []
         for _ in range(self.random.randrange(1, 120)):
-            line = model.random_line(self.random, book) if self.random.random() > 0.02 else "roll"
+            line = model.random_line(self.random, book) if self.random.random() > 0.03 else self.random.choice(["roll", "checkpoint", "restore 0"])
             lines.append(line)
             answers.append(book.answer(line))
             books.append(book.copy())

@@ -13,7 +13,8 @@ static PARTS: [Part; 3] = [Part::Nothing, Part::Half, Part::All];
 
 static KEEPS: [Keep; 4] = [Keep::Synced, Keep::Half, Keep::All, Keep::Torn];
 
-fn parts() -> &'static [Part] {
+/// The parts that a call which fails may leave.
+pub(crate) fn parts() -> &'static [Part] {
     &PARTS
 }
 
@@ -22,7 +23,7 @@ fn keeps() -> &'static [Keep] {
 }
 
 // Lines with their answers, one after another.
-static LINES: [(&str, &str); 14] = [
+static LINES: [(&str, &str); 15] = [
     ("mkdir /a", "ok\n"),
     ("mkdir /a", "refused exists\n"),
     ("# nothing is asked", ""),
@@ -35,7 +36,8 @@ static LINES: [(&str, &str); 14] = [
     ("roll", "ok\n"),
     ("checkpoint", "ok\n"),
     ("finalize", "refused later\n"),
-    ("restore 1", "refused later\n"),
+    ("restore 1", "ok\n"),
+    ("restore 2", "refused no-such-dir\n"),
     ("delete /a", "ok\n"),
 ];
 
@@ -65,13 +67,13 @@ fn bytes(alloc: Global, host: &mut MemHost, i: DirNo, name: &FileName) -> Option
     read_all(alloc, host, i, Sub::Current, *name, 65_536).ok()
 }
 
-// The last id that segments of the directory lead to from the id 0, or None where one begins behind an id that none has.
-fn reached(alloc: Global, host: &mut MemHost, i: DirNo) -> Option<u64> {
+/// The last id that segments of the directory lead to from this one, or None where one begins behind an id that none has.
+pub(crate) fn reached(alloc: Global, host: &mut MemHost, i: DirNo, from: u64) -> Option<u64> {
     let mut names = Vec::new(alloc);
     if host.count() <= i.0 || host.list(i, Sub::Current, &mut names).is_err() {
         return None;
     }
-    let mut last = 0;
+    let mut last = from;
     for name in names.iter() {
         let first = match *name {
             FileName::Edits(span) => span.first,
@@ -108,7 +110,7 @@ fn each_line_is_answered_and_each_command_that_is_taken_has_one_record(
     assert!(rt; core.last() == Txid(8));
     for i in [A, B] {
         assert!(rt; core.live(i));
-        assert!(rt; reached(alloc, &mut host, i) == Some(8));
+        assert!(rt; reached(alloc, &mut host, i, 0) == Some(8));
     }
     Ok(())
 }
@@ -140,9 +142,9 @@ fn a_call_that_fails_drops_its_directory_and_changes_no_answer_or_fails_an_answe
             let (mut host, core) = run.parts();
             assert!(rt; core.live(A) != core.live(B), "{k} {part:?}");
             let (stays, gone) = if core.live(A) { (A, B) } else { (B, A) };
-            let high = reached(alloc, &mut host, stays);
+            let high = reached(alloc, &mut host, stays, 0);
             assert!(rt; high == Some(core.last().0), "{k} {part:?}");
-            let low = reached(alloc, &mut host, gone);
+            let low = reached(alloc, &mut host, gone, 0);
             assert!(rt; low.is_some_and(|id| id < core.last().0), "{k} {part:?}");
         }
     }
@@ -187,8 +189,8 @@ fn a_stop_at_any_call_leaves_in_each_directory_the_records_of_all_that_was_answe
         for done in [false, true] {
             for keep in keeps() {
                 let mut left = host.stopped_at(k, Choice { done, keep: *keep })?;
-                let a = reached(alloc, &mut left, A).ok_or("a gap")?;
-                let b = reached(alloc, &mut left, B).ok_or("a gap")?;
+                let a = reached(alloc, &mut left, A, 0).ok_or("a gap")?;
+                let b = reached(alloc, &mut left, B, 0).ok_or("a gap")?;
                 for (calls, last) in answered.iter() {
                     assert!(rt; k < *calls || (*last <= a && *last <= b), "{k}");
                 }
