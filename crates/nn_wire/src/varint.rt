@@ -58,6 +58,7 @@ pub fn varint_put(value: u64, out: &mut Vec<u8>) -> Result<(), NoMemory>
 }
 
 /// `varint_read`, byte by byte.
+#[inline(always)]
 fn scan(bytes: &[u8]) -> Result<(u64, usize), WireFault>
     ensures ok { IfOk result (λ found. Begins bytes.now found.0 (drop found.1 bytes.now)) }
     ensures len { IfOk result (λ found. (found.1 ≡ length (varint found.0)) × (found.1 ≤ length bytes.now)) }
