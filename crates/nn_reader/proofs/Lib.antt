@@ -3,3 +3,4 @@ pub mod ReaderLemmas
 pub mod LinesLemmas
 pub mod LongLemmas
 pub mod ScriptLemmas
+pub mod NewlineLemmas

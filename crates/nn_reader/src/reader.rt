@@ -7,6 +7,7 @@ ghost use Rattle.nn_base.specs.Limits.{most_piece, most_script};
 ghost use Rattle.nn_host.specs.Calls.{next_count};
 ghost use Rattle.nn_reader.specs.Reading.{most_kept, front_of, kept_of, past_of, IsBehind};
 
+use memchr::memchr;
 use nn_base::NoMemory;
 use nn_base::limits::{MOST_LINE, MOST_PIECE, MOST_SCRIPT};
 use nn_host::{Failed, Source};
@@ -201,7 +202,7 @@ fn take_front<S: Source>(source: &mut S, chunk: &mut [u8], most: usize) -> Resul
 fn newline_in(bytes: &[u8]) -> Option<usize>
     ensures { result ≡ position (λ byte. byte == 10) bytes.now }
 {
-    bytes.iter().position(|byte| *byte == b'\n')
+    memchr(b'\n', bytes)
 }
 
 // Appends what is kept of a part of a line.
