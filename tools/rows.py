@@ -595,6 +595,22 @@ def a_generated_script_is_taken_by_dry_and_by_a_run(place):
 
 
 @row
+def a_run_over_generated_lines_counts_their_answers(place):
+    place.formatted("A B")
+    place.says("run --generate 20000 A B", "mkdir /a\n", "started 0|commands 60200 ok 60200|stopped")
+    place.says("run A B --generate=101", "", "started 60202|commands 305 ok 0|stopped")
+    place.says("run A B", "list /g199/f19999\n", "started 60204|f 36585 0644 hdfs supergroup 0 3 closed 1 45773273 /g199/f19999|b 1073761824 21000 45773273|ok 1|stopped")
+
+
+@row
+def a_run_over_generated_lines_goes_on_without_a_directory_that_fails(place):
+    place.formatted("A B")
+    failing = place.failing("fdatasync", "EIO", 5, f"B/current/{in_progress(1)}")
+    place.says_failing(failing, "run --generate 100 A B", "", "started 0|commands 301 ok 301|stopped")
+    place.says("run A B", "", "started 305|stopped")
+
+
+@row
 def an_output_that_is_full_ends_generate_by_8(place):
     with open("/dev/full", "wb") as full:
         place.says("generate 500000", "", "", 8, stdout=full)
@@ -606,7 +622,7 @@ FORMS = {
     "state": "namenode state DIR..",
     "format": "namenode format --cluster C --namespace N DIR..",
     "dry": "namenode dry < SCRIPT",
-    "run": "namenode run [--at T] DIR.. < SCRIPT",
+    "run": "namenode run [--at T] DIR.. < SCRIPT\n       namenode run [--at T] --generate N DIR..",
     "generate": "namenode generate N",
 }
 EVERY_FORM = "\n       ".join(FORMS.values())
@@ -628,6 +644,9 @@ UNREAD = (
     (("run", "--at", "-5", "A"), "'--at' takes a value, and '-5' behind it begins with '-'"),
     (("run", "--at=-5", "A"), "'--at' takes milliseconds, from 0 to 9223372036854775807, and not '-5'"),
     (("run", "A", "--at"), "'--at' takes a value, and no word stands behind it"),
+    (("run", "--generate", "0", "A"), "'--generate' takes a number from 1 to 500000, and not '0'"),
+    (("run", "--generate=500001", "A"), "'--generate' takes a number from 1 to 500000, and not '500001'"),
+    (("run", "--generate=2", "A", "--generate", "2"), "the argument '--generate <N>' cannot be used multiple times"),
     (("run", "--batch=0", "A"), "unexpected argument '--batch' found\n\n  tip: a similar argument exists: '--at'"),
     (("state", "-x"), "unexpected argument '-x' found\n\n  tip: to pass '-x' as a value, use '-- -x'"),
     (("dry", "A"), "unexpected argument 'A' found"),
@@ -637,7 +656,7 @@ UNREAD = (
     (("generate", "--", "5"), "'generate' takes a number from 1 to 500000, and not '--'"),
     (("generate", "2", "A"), "unexpected argument 'A' found"),
     (("generate", "2", "--", "A"), "unexpected argument 'A' found"),
-    (("generate", "--batch=5"), "unexpected argument '--batch' found\n\n  tip: to pass '--batch' as a value, use '-- --batch'"),
+    (("generate", "--batch=5"), "'generate' takes a number from 1 to 500000, and not '--batch=5'"),
     (("format", "--cluster", "c1", "A"), "the following required arguments were not provided:\n  --namespace <N>"),
     (("format", "--cluster", "-", "--namespace", "7", "A"), "'--cluster' takes a value, and '-' behind it begins with '-'"),
     (("format", "--cluster=a b", "--namespace", "7", "A"), "'--cluster' takes 1 to 255 bytes that print, without spaces, and not 'a b'"),
@@ -715,7 +734,7 @@ def a_directory_is_told_of_as_it_is_dropped_and_again_at_the_end(place):
     dropped = f"namenode: directory 1: can't rename B/current/{in_progress(1)}: entity not found\n"
     same("what is told at once", talk.child.stderr.readline(), dropped)
     same("the end", talk.ends(), ("stopped\n", 0))
-    left = "namenode: directory 1 is B: it failed and was left out; once it works, run over all of these directories again\n"
+    left = "namenode: directory 1 is B: it failed and was left out, unless a line `restore` took it back; once it works, run over all of these directories again\n"
     same("what is told at the end", talk.told, left)
 
 

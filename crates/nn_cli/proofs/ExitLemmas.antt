@@ -1,5 +1,5 @@
 -- How the process ends, from the status of the run.
-use Rattle.std.proofs.Common.{◌≡◌, Some, inl, inr, ℕ, List, [], length, ap, subst}
+use Rattle.std.proofs.Common.{◌≡◌, Some, None, inl, inr, ℕ, List, [], length, ap, subst}
 use Rattle.nn_base.specs.Paths.{Bytes}
 use Rattle.nn_host.specs.Moments.{State}
 use Rattle.nn_files.specs.Untold.{unfailed_state}
@@ -35,7 +35,8 @@ counts_alone left faults before after old new Dry status did = record {
   closes = did.closes;
 }
 counts_alone left faults before after old new (Generate count) status did = (ap faults did.0, did.1)
-counts_alone left faults before after old new (Run at dirs) status did = record {
+counts_alone left faults before after old new (Run at (Some files) dirs) status did = (ap faults did.0, did.1)
+counts_alone left faults before after old new (Run at None dirs) status did = record {
   ended = record {
     end = did.ended.end;
     lines = did.ended.lines;

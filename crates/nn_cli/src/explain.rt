@@ -39,7 +39,7 @@ fn left_out<R: Files + Print + Eprint + Drop>(rt: &R, host: &FileHost<&R>) {
                 rt,
                 host.paths(),
                 i,
-                "it failed and was left out; once it works, run over all of these directories again",
+                "it failed and was left out, unless a line `restore` took it back; once it works, run over all of these directories again",
             );
         }
     }

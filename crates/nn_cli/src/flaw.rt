@@ -12,6 +12,8 @@ pub enum Choice {
     Namespace,
     /// `--at`, of `run`.
     At,
+    /// `--generate`, of `run`. The command `generate` takes the same number.
+    Generate,
 }
 
 impl Choice {
@@ -21,6 +23,7 @@ impl Choice {
             Choice::Cluster => "cluster",
             Choice::Namespace => "namespace",
             Choice::At => "at",
+            Choice::Generate => "generate",
         }
     }
 
@@ -30,6 +33,7 @@ impl Choice {
             Choice::Cluster => "1 to 255 bytes that print, without spaces",
             Choice::Namespace => "a number from 1 to 2147483647",
             Choice::At => "milliseconds, from 0 to 9223372036854775807",
+            Choice::Generate => "a number from 1 to 500000",
         }
     }
 
@@ -41,6 +45,7 @@ impl Choice {
                 None => false,
             },
             Choice::At => decimal::number(value.as_bytes()).is_some(),
+            Choice::Generate => is_count(value),
         }
     }
 }
@@ -110,10 +115,11 @@ pub fn flaw_of<'a>(choices: &[Choice], words: &'a [String]) -> Option<Flaw<'a>> 
 /// The flaw of the first word behind `generate`, which is its number.
 pub fn count_flaw(words: &[String]) -> Option<Flaw<'_>> {
     let word = words.first()?.as_str();
-    if (word == "--" || is_plain(word)) && !is_count(word) {
-        return Some(Flaw::Count(word));
+    if is_count(word) {
+        None
+    } else {
+        Some(Flaw::Count(word))
     }
-    None
 }
 
 fn is_count(word: &str) -> bool {

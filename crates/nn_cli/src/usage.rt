@@ -11,6 +11,7 @@ const ALL: &str = "namenode state DIR..
        namenode format --cluster C --namespace N DIR..
        namenode dry < SCRIPT
        namenode run [--at T] DIR.. < SCRIPT
+       namenode run [--at T] --generate N DIR..
        namenode generate N";
 
 #[derive(Clone, Copy)]
@@ -39,7 +40,8 @@ impl Form {
             Form::State => "namenode state DIR..",
             Form::Format => "namenode format --cluster C --namespace N DIR..",
             Form::Dry => "namenode dry < SCRIPT",
-            Form::Run => "namenode run [--at T] DIR.. < SCRIPT",
+            Form::Run => "namenode run [--at T] DIR.. < SCRIPT
+       namenode run [--at T] --generate N DIR..",
             Form::Generate => "namenode generate N",
         }
     }
@@ -48,7 +50,7 @@ impl Form {
         match self {
             Form::State | Form::Dry => flaw_of(&[], words),
             Form::Format => flaw_of(&[Choice::Cluster, Choice::Namespace], words),
-            Form::Run => flaw_of(&[Choice::At], words),
+            Form::Run => flaw_of(&[Choice::At, Choice::Generate], words),
             Form::Generate => count_flaw(words),
         }
     }
@@ -118,7 +120,12 @@ fn command_of<'a>(alloc: Global, form: Form) -> Result<Command<'a>, AllocError> 
             with_dirs(alloc, command)
         }
         Form::Dry => Ok(command),
-        Form::Run => with_dirs(alloc, command.arg(option(alloc, Choice::At, "T"))?),
+        Form::Run => {
+            let command = command
+                .arg(option(alloc, Choice::At, "T"))?
+                .arg(option(alloc, Choice::Generate, "N"))?;
+            with_dirs(alloc, command)
+        }
         Form::Generate => {
             let count = Arg::new(alloc, "count").value_name("N").required(true);
             command.arg(count)
@@ -174,7 +181,8 @@ fn message_of(alloc: Global, flaw: &Flaw<'_>) -> Result<String, AllocError> {
             format!(in alloc; "the directory '{dir}' is one too many: there are at most 8")
         }
         Flaw::Count(word) => {
-            format!(in alloc; "'generate' takes a number from 1 to 500000, and not '{word}'")
+            let takes = Choice::Generate.takes();
+            format!(in alloc; "'generate' takes {takes}, and not '{word}'")
         }
     }
 }

@@ -7,3 +7,9 @@ pub mod OpeningLemmas
 pub mod TurnLemmas
 pub mod ServeLemmas
 pub mod LoopLemmas
+pub mod FillLemmas
+pub mod FillOutLemmas
+pub mod FillNextLemmas
+pub mod FillLinesLemmas
+pub mod FillEndLemmas
+pub mod FillLoopLemmas

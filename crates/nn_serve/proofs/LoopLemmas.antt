@@ -31,7 +31,7 @@ pub record Answering (told_host told_source : Type 0) (at count : ℕ) (version 
   pub room : HasRoom told_host old journal budget
   pub so_far : SoFar told_source script rest budget (lines_of_all seen)
 
-room_less : {told : Type 0} {old : State} {journal : JournalSet} {more : ℕ} (fewer : ℕ) → fewer ≤ more → HasRoom told old journal more → HasRoom told old journal fewer
+pub room_less : {told : Type 0} {old : State} {journal : JournalSet} {more : ℕ} (fewer : ℕ) → fewer ≤ more → HasRoom told old journal more → HasRoom told old journal fewer
 room_less fewer le room = record { ids = omega (arith, le, room.ids); few = λ tells begins. omega (arith, le, room.few tells begins) }
 
 pub answering_nothing : {told_host told_source : Type 0} {at count : ℕ} {version : Version} {ns : Namespace} {time : ℕ} {journal : JournalSet} {old s : State} (script ahead : Bytes) (budget : ℕ) → ahead ≡ [] → budget ≡ most_script

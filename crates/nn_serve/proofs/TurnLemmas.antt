@@ -42,7 +42,7 @@ pub room_ids : {told : Type 0} {old : State} {journal : JournalSet} {more : ℕ}
 room_ids room tells begins = omega (arith, room.few tells begins)
 
 -- a line takes at most so many ids
-room_after : {told : Type 0} {old : State} {journal after : JournalSet} (more : ℕ) → HasRoom told old journal (more + 1) → after.last + 2 * count_of after.live ≤ journal.last + 8 + 2 * count_of journal.live → HasRoom told old after more
+pub room_after : {told : Type 0} {old : State} {journal after : JournalSet} (more : ℕ) → HasRoom told old journal (more + 1) → after.last + 2 * count_of after.live ≤ journal.last + 8 + 2 * count_of journal.live → HasRoom told old after more
 room_after more room last = record { ids = omega (arith, room.ids, last); few = λ tells begins. omega (arith, room.few tells begins, last) }
 
 -- ---- a line that was answered

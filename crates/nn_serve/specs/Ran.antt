@@ -124,7 +124,7 @@ pub record RunRan (told_host told_source : Type 0) (at : ℕ) (script left : Byt
   pub opening : told_host → text ≢ [] → (opened : Opening) → Opens (dirs_of old) Start opened → opened.book.saved ≡ None → Throughout (Unit {0}) old new (AsItStarts opened.last old (NoneFailed old))
   -- and how each directory stood then
   pub started : told_host → text ≢ [] → (begins : BeginsSoundly old) → StartsAll old new begins.sound.opened.last begins.sound.opened.book.ns
-  -- at every moment every choice with a directory of the run opens into its window, whatever lines come behind those that were read
+  -- at every moment every choice with a directory of the run opens into its window, whatever lines come behind those that were read; and whichever directories are said to have had a saved state ahead, since nothing is saved
   pub kept : told_host → (begins : BeginsSoundly old) (ahead : ℕ → Bool) (rest : List Asked) → RunKept (Unit {0}) (course_of (asked_at at) old.count begins.sound.opens.version.ctime begins.sound.opened (seen ++ rest) ahead) old new
   -- and what done work leaves
   pub ended : told_host → end ≡ Ended → (begins : BeginsSoundly old) → LeavesLast (asked_at at) begins.sound.opened seen old new

@@ -16,14 +16,14 @@ pub enum RunEnd {
     Refused(Refusal),
     /// A call on this directory failed before the run had started. Nothing was said.
     HostFault(DirNo),
-    /// A call on each directory has failed since the run started.
+    /// A call on each directory has failed since the run started, or since a line last took it back.
     NoneLeft,
     /// A call of the source failed. The lines that were read whole by then were answered.
     SourceFault,
     /// The script has more than 2^26 bytes. The lines that end within them were answered.
     ScriptTooLong,
-    /// Memory ran out: before the run had started, over a line of which nothing was written yet, or over a checkpoint, which was
-    /// not answered.
+    /// Memory ran out: before the run had started; over a command of which nothing was written yet; or over a checkpoint or a
+    /// directory that was to be taken back, which was not answered. `Core::step` tells which.
     Memory,
     /// The output failed: nothing more was said.
     OutFault,

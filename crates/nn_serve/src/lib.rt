@@ -5,8 +5,10 @@
 #![tactic(auto)]
 
 mod ending;
+mod filling;
 mod serving;
+mod tally;
 mod whole_run;
 
 pub use ending::RunEnd;
-pub use whole_run::run;
+pub use whole_run::{run, run_generated};

@@ -8,7 +8,7 @@ use Rattle.std.proofs.lemmas.List.{append-nil}
 use Rattle.std.proofs.lemmas.List.Folds.{list_all-append}
 use Rattle.std.proofs.lemmas.Slice.Eq.{bytes_eq-Decides}
 use Rattle.nn_top.specs.declared.words.options.OptionName.{OptionName}
-use Rattle.nn_top.specs.declared.words.options.OptionName.TheVariants.{Cluster, Namespace, At}
+use Rattle.nn_top.specs.declared.words.options.OptionName.TheVariants.{Cluster, Namespace, At, Generate}
 use Rattle.nn_top.specs.Words.{Word, is_plain, can_stand_apart, is_among}
 use Rattle.nn_top.specs.Parts.{Part, Given, Dir, Mark, Stray, joined_in, parts_of, is_dir, is_known, no_dirs, follow, stand_together, is_line, dir_in, dirs_among, value_in, values_of}
 use Rattle.nn_top.specs.Wanted.{Wanted, dirs_in}
@@ -19,7 +19,7 @@ use Rattle.nn_top.specs.Laws.{IsOption, is_unmarked}
 use Rattle.nn_top.proofs.PartsLemmas.{plain_first, mark_first, follow_none, dirless, marked_line}
 use Rattle.nn_top.proofs.NamesLemmas.{among_names, begins_option}
 use Rattle.nn_top.proofs.ReadingLemmas.{Called, a_state, a_format, a_dry, a_generate, a_run, no_command, called, read_by, unread_by}
-use Rattle.nn_top.proofs.AskedLemmas.{cluster_twice, namespace_twice, at_twice}
+use Rattle.nn_top.proofs.AskedLemmas.{cluster_twice, namespace_twice, at_twice, generate_twice}
 
 -- ---- words in front
 
@@ -62,7 +62,7 @@ names_of : (command : Word) → (names : List OptionName) × (options_of command
 names_of command = ⊎_elim
     (λ (format : bytes_eq command (codes "format") ≡ true). (Cluster ∷ Namespace ∷ [], rw format refl))
     (λ (other : bytes_eq command (codes "format") ≡ false). ⊎_elim
-    (λ (run : bytes_eq command (codes "run") ≡ true). (At ∷ [], rw other (rw run refl)))
+    (λ (run : bytes_eq command (codes "run") ≡ true). (At ∷ Generate ∷ [], rw other (rw run refl)))
     (λ (none : bytes_eq command (codes "run") ≡ false). ([], rw other (rw none refl)))
     (cases_Bool (bytes_eq command (codes "run"))))
     (cases_Bool (bytes_eq command (codes "format")))
@@ -78,6 +78,7 @@ dashed_name : (name : OptionName) (later : Word) → can_stand_apart (text_of na
 dashed_name Cluster later = refl
 dashed_name Namespace later = refl
 dashed_name At later = refl
+dashed_name Generate later = refl
 
 dashed : (command option later : Word) → IsOption command option → can_stand_apart (option ++ later) ≡ false
 dashed command option later is =
@@ -140,11 +141,13 @@ twice_none command option words is twice = by (called command)
     of_format Cluster e taken two = cluster_twice (parts_of format_options words) (subst (λ o. 2 ≤ length (values_of o (parts_of format_options words))) e two)
     of_format Namespace e taken two = namespace_twice (parts_of format_options words) (subst (λ o. 2 ≤ length (values_of o (parts_of format_options words))) e two)
     of_format At e taken two = absurd (false≢true taken)
+    of_format Generate e taken two = absurd (false≢true taken)
 
-    of_run : (name : OptionName) → option ≡ text_of name → IsTaken (At ∷ []) name → 2 ≤ length (values_of option (parts_of run_options words)) → run_in (parts_of run_options words) ≡ None
+    of_run : (name : OptionName) → option ≡ text_of name → IsTaken (At ∷ Generate ∷ []) name → 2 ≤ length (values_of option (parts_of run_options words)) → run_in (parts_of run_options words) ≡ None
     of_run Cluster e taken two = absurd (false≢true taken)
     of_run Namespace e taken two = absurd (false≢true taken)
     of_run At e taken two = at_twice (parts_of run_options words) (subst (λ o. 2 ≤ length (values_of o (parts_of run_options words))) e two)
+    of_run Generate e taken two = generate_twice (parts_of run_options words) (subst (λ o. 2 ≤ length (values_of o (parts_of run_options words))) e two)
 
     by : Called command → HaveNoReading (command ∷ words)
     by (a_state e) = absurd (false≢true (at (codes "state") e).0)
@@ -156,7 +159,7 @@ twice_none command option words is twice = by (called command)
     by (a_generate e) = absurd (false≢true (at (codes "generate") e).0)
     by (a_run e) =
         let both = at (codes "run") e in
-        let found = among_names (At ∷ []) option both.0 in
+        let found = among_names (At ∷ Generate ∷ []) option both.0 in
         subst (λ c. HaveNoReading (c ∷ words)) (sym e) (of_run found.0 found.1 found.2 both.1)
     by (no_command none) = none words
 

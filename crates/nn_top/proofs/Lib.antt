@@ -12,5 +12,6 @@ pub mod ClosesLemmas
 pub mod DidLemmas
 pub mod EndingLemmas
 pub mod RunLemmas
+pub mod FillLemmas
 pub mod UsageLemmas
 pub mod GenerateLemmas

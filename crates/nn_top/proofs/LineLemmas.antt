@@ -58,7 +58,7 @@ format_line : (parts : List Part) (choices : List GivenOption) (dirs : List Word
 format_line parts choices dirs line is values = rw line (rw is (rw (values (codes "--cluster")) (rw (values (codes "--namespace")) refl)))
 
 run_line : (parts : List Part) (choices : List GivenOption) (dirs : List Word) → is_line parts ≡ true → dirs_among parts ≡ dirs → ((option : Word) → values_of option parts ≡ values_in option choices) → run_in parts ≡ run_with choices dirs
-run_line parts choices dirs line is values = rw line (rw is (rw (values (codes "--at")) refl))
+run_line parts choices dirs line is values = rw line (rw is (rw (values (codes "--at")) (rw (values (codes "--generate")) refl)))
 
 asks_with : (command : Word) → TakesOptions command → AsksWith command
 asks_with command (inl is) = subst AsksWith (sym is) (λ words choices dirs line same values. format_line (parts_of format_options words) choices dirs line same values)

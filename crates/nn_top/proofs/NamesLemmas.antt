@@ -4,7 +4,7 @@ use Rattle.std.specs.Str.{bytes_eq}
 use Rattle.std.proofs.lemmas.Bool.{true≢false, false≢true, or_cases, or_left, or_right, or_from}
 use Rattle.std.proofs.lemmas.Slice.Eq.{bytes_eq-Decides}
 use Rattle.nn_top.specs.declared.words.options.OptionName.{OptionName}
-use Rattle.nn_top.specs.declared.words.options.OptionName.TheVariants.{Cluster, Namespace, At}
+use Rattle.nn_top.specs.declared.words.options.OptionName.TheVariants.{Cluster, Namespace, At, Generate}
 use Rattle.nn_top.specs.Words.{Word, is_plain, is_among}
 use Rattle.nn_top.specs.Parts.{Given, behind, joined_in, parts_of}
 use Rattle.nn_top.specs.Begins.{BeginWith, is_given, begins}
@@ -22,24 +22,38 @@ by_name : (n name : OptionName) (value : Word)
 by_name Cluster Cluster value = inl (refl, refl, refl)
 by_name Cluster Namespace value = inr (refl, refl)
 by_name Cluster At value = inr (refl, refl)
+by_name Cluster Generate value = inr (refl, refl)
 by_name Namespace Cluster value = inr (refl, refl)
 by_name Namespace Namespace value = inl (refl, refl, refl)
 by_name Namespace At value = inr (refl, refl)
+by_name Namespace Generate value = inr (refl, refl)
 by_name At Cluster value = inr (refl, refl)
 by_name At Namespace value = inr (refl, refl)
 by_name At At value = inl (refl, refl, refl)
+by_name At Generate value = inr (refl, refl)
+by_name Generate Cluster value = inr (refl, refl)
+by_name Generate Namespace value = inr (refl, refl)
+by_name Generate At value = inr (refl, refl)
+by_name Generate Generate value = inl (refl, refl, refl)
 
 -- a word with a value is no option by itself
 no_name : (n name : OptionName) (value : Word) → bytes_eq (joined name value) (text_of n) ≡ false
 no_name Cluster Cluster value = refl
 no_name Cluster Namespace value = refl
 no_name Cluster At value = refl
+no_name Cluster Generate value = refl
 no_name Namespace Cluster value = refl
 no_name Namespace Namespace value = refl
 no_name Namespace At value = refl
+no_name Namespace Generate value = refl
 no_name At Cluster value = refl
 no_name At Namespace value = refl
 no_name At At value = refl
+no_name At Generate value = refl
+no_name Generate Cluster value = refl
+no_name Generate Namespace value = refl
+no_name Generate At value = refl
+no_name Generate Generate value = refl
 
 none_among : (names : List OptionName) (name : OptionName) (value : Word) → is_among (texts_of names) (joined name value) ≡ false
 none_among [] name value = refl
@@ -50,21 +64,25 @@ joined_unplain : (name : OptionName) (value : Word) → is_plain (joined name va
 joined_unplain Cluster value = refl
 joined_unplain Namespace value = refl
 joined_unplain At value = refl
+joined_unplain Generate value = refl
 
 joined_unmarked : (name : OptionName) (value : Word) → bytes_eq (joined name value) (codes "--") ≡ false
 joined_unmarked Cluster value = refl
 joined_unmarked Namespace value = refl
 joined_unmarked At value = refl
+joined_unmarked Generate value = refl
 
 alone_unplain : (name : OptionName) → is_plain (text_of name) ≡ false
 alone_unplain Cluster = refl
 alone_unplain Namespace = refl
 alone_unplain At = refl
+alone_unplain Generate = refl
 
 alone_unmarked : (name : OptionName) → bytes_eq (text_of name) (codes "--") ≡ false
 alone_unmarked Cluster = refl
 alone_unmarked Namespace = refl
 alone_unmarked At = refl
+alone_unmarked Generate = refl
 
 joined_taken : (names : List OptionName) (name : OptionName) (value : Word) → IsTaken names name → joined_in (texts_of names) (joined name value) ≡ Given (text_of name) value
 joined_taken [] name value taken = absurd (false≢true taken)

@@ -5,7 +5,7 @@ use Rattle.std.proofs.lemmas.Bool.{true≢false, false≢true}
 use Rattle.std.proofs.lemmas.Grind.{flat_map-append}
 use Rattle.std.proofs.lemmas.List.{append-nil}
 use Rattle.nn_top.specs.declared.words.options.OptionName.{OptionName}
-use Rattle.nn_top.specs.declared.words.options.OptionName.TheVariants.{Cluster, Namespace, At}
+use Rattle.nn_top.specs.declared.words.options.OptionName.TheVariants.{Cluster, Namespace, At, Generate}
 use Rattle.nn_top.specs.declared.words.line.Values.{Values}
 use Rattle.nn_top.specs.declared.words.line.Line.{Line}
 use Rattle.nn_top.specs.Words.{Word, texts}
@@ -24,20 +24,29 @@ pub none_given : (values : Values) (name : OptionName) (value : Option (Bor Word
 none_given values name value is none = sym is ∙ not_given value none
 
 -- an option that had no value is given one
-pub gives_cluster : (old new : Values) (value : Bor Word) → given_value old.cluster ≡ [] → new.cluster ≡ Some value → new.namespace ≡ old.namespace → new.at ≡ old.at → Adds (Given (codes "--cluster") value.now ∷ []) old new
-gives_cluster old new value none cluster namespace at Cluster = ap given_value cluster ∙ ap (λ vs. vs ++ value.now ∷ []) (sym none)
-gives_cluster old new value none cluster namespace at Namespace = ap given_value namespace ∙ sym (append-nil (given_value old.namespace))
-gives_cluster old new value none cluster namespace at At = ap given_value at ∙ sym (append-nil (given_value old.at))
+pub gives_cluster : (old new : Values) (value : Bor Word) → given_value old.cluster ≡ [] → new.cluster ≡ Some value → new.namespace ≡ old.namespace → new.at ≡ old.at → new.generate ≡ old.generate → Adds (Given (codes "--cluster") value.now ∷ []) old new
+gives_cluster old new value none cluster namespace at generate Cluster = ap given_value cluster ∙ ap (λ vs. vs ++ value.now ∷ []) (sym none)
+gives_cluster old new value none cluster namespace at generate Namespace = ap given_value namespace ∙ sym (append-nil (given_value old.namespace))
+gives_cluster old new value none cluster namespace at generate At = ap given_value at ∙ sym (append-nil (given_value old.at))
+gives_cluster old new value none cluster namespace at generate Generate = ap given_value generate ∙ sym (append-nil (given_value old.generate))
 
-pub gives_namespace : (old new : Values) (value : Bor Word) → given_value old.namespace ≡ [] → new.cluster ≡ old.cluster → new.namespace ≡ Some value → new.at ≡ old.at → Adds (Given (codes "--namespace") value.now ∷ []) old new
-gives_namespace old new value none cluster namespace at Cluster = ap given_value cluster ∙ sym (append-nil (given_value old.cluster))
-gives_namespace old new value none cluster namespace at Namespace = ap given_value namespace ∙ ap (λ vs. vs ++ value.now ∷ []) (sym none)
-gives_namespace old new value none cluster namespace at At = ap given_value at ∙ sym (append-nil (given_value old.at))
+pub gives_namespace : (old new : Values) (value : Bor Word) → given_value old.namespace ≡ [] → new.cluster ≡ old.cluster → new.namespace ≡ Some value → new.at ≡ old.at → new.generate ≡ old.generate → Adds (Given (codes "--namespace") value.now ∷ []) old new
+gives_namespace old new value none cluster namespace at generate Cluster = ap given_value cluster ∙ sym (append-nil (given_value old.cluster))
+gives_namespace old new value none cluster namespace at generate Namespace = ap given_value namespace ∙ ap (λ vs. vs ++ value.now ∷ []) (sym none)
+gives_namespace old new value none cluster namespace at generate At = ap given_value at ∙ sym (append-nil (given_value old.at))
+gives_namespace old new value none cluster namespace at generate Generate = ap given_value generate ∙ sym (append-nil (given_value old.generate))
 
-pub gives_at : (old new : Values) (value : Bor Word) → given_value old.at ≡ [] → new.cluster ≡ old.cluster → new.namespace ≡ old.namespace → new.at ≡ Some value → Adds (Given (codes "--at") value.now ∷ []) old new
-gives_at old new value none cluster namespace at Cluster = ap given_value cluster ∙ sym (append-nil (given_value old.cluster))
-gives_at old new value none cluster namespace at Namespace = ap given_value namespace ∙ sym (append-nil (given_value old.namespace))
-gives_at old new value none cluster namespace at At = ap given_value at ∙ ap (λ vs. vs ++ value.now ∷ []) (sym none)
+pub gives_at : (old new : Values) (value : Bor Word) → given_value old.at ≡ [] → new.cluster ≡ old.cluster → new.namespace ≡ old.namespace → new.at ≡ Some value → new.generate ≡ old.generate → Adds (Given (codes "--at") value.now ∷ []) old new
+gives_at old new value none cluster namespace at generate Cluster = ap given_value cluster ∙ sym (append-nil (given_value old.cluster))
+gives_at old new value none cluster namespace at generate Namespace = ap given_value namespace ∙ sym (append-nil (given_value old.namespace))
+gives_at old new value none cluster namespace at generate At = ap given_value at ∙ ap (λ vs. vs ++ value.now ∷ []) (sym none)
+gives_at old new value none cluster namespace at generate Generate = ap given_value generate ∙ sym (append-nil (given_value old.generate))
+
+pub gives_generate : (old new : Values) (value : Bor Word) → given_value old.generate ≡ [] → new.cluster ≡ old.cluster → new.namespace ≡ old.namespace → new.at ≡ old.at → new.generate ≡ Some value → Adds (Given (codes "--generate") value.now ∷ []) old new
+gives_generate old new value none cluster namespace at generate Cluster = ap given_value cluster ∙ sym (append-nil (given_value old.cluster))
+gives_generate old new value none cluster namespace at generate Namespace = ap given_value namespace ∙ sym (append-nil (given_value old.namespace))
+gives_generate old new value none cluster namespace at generate At = ap given_value at ∙ sym (append-nil (given_value old.at))
+gives_generate old new value none cluster namespace at generate Generate = ap given_value generate ∙ ap (λ vs. vs ++ value.now ∷ []) (sym none)
 
 -- values of some parts, and then of those behind them
 added_values : (option : Word) (front back : List Part) (before middle after : List Word) → middle ≡ before ++ values_of option front → after ≡ middle ++ values_of option back → after ≡ before ++ values_of option (front ++ back)
@@ -184,18 +193,19 @@ plain_unended names line middle new [] parts option unmarked first read more =
 
 -- ---- from the start
 
-start_given : (line : Line) (name : OptionName) → line.values.cluster ≡ None → line.values.namespace ≡ None → line.values.at ≡ None → given_to line.values name ≡ []
-start_given line Cluster cluster namespace at = ap given_value cluster
-start_given line Namespace cluster namespace at = ap given_value namespace
-start_given line At cluster namespace at = ap given_value at
+start_given : (line : Line) (name : OptionName) → line.values.cluster ≡ None → line.values.namespace ≡ None → line.values.at ≡ None → line.values.generate ≡ None → given_to line.values name ≡ []
+start_given line Cluster cluster namespace at generate = ap given_value cluster
+start_given line Namespace cluster namespace at generate = ap given_value namespace
+start_given line At cluster namespace at generate = ap given_value at
+start_given line Generate cluster namespace at generate = ap given_value generate
 
-pub line_read : {P : Type 0} (names : List OptionName) (found : Option P) (values_in : P → Values) (dirs_in : P → List Word) (line : Line) → line.values.cluster ≡ None → line.values.namespace ≡ None → line.values.at ≡ None
+pub line_read : {P : Type 0} (names : List OptionName) (found : Option P) (values_in : P → Values) (dirs_in : P → List Word) (line : Line) → line.values.cluster ≡ None → line.values.namespace ≡ None → line.values.at ≡ None → line.values.generate ≡ None
     → MatchOption found (IsUnreadFrom names line) (λ f. ReadLine names line (values_in f) (dirs_in f)) → MatchOption found (IsUnread names (parts_left names line)) (λ f. IsReadAs (parts_left names line) (values_in f) (dirs_in f))
-line_read names None values_in dirs_in line cluster namespace at (inl broken) = inl broken
-line_read names None values_in dirs_in line cluster namespace at (inr twice) =
-    inr (twice.0, twice.1, subst (λ vs. 2 ≤ length (vs ++ values_of (text_of twice.0) (parts_left names line))) (start_given line twice.0 cluster namespace at) twice.2)
-line_read names (Some f) values_in dirs_in line cluster namespace at read = record {
+line_read names None values_in dirs_in line cluster namespace at generate (inl broken) = inl broken
+line_read names None values_in dirs_in line cluster namespace at generate (inr twice) =
+    inr (twice.0, twice.1, subst (λ vs. 2 ≤ length (vs ++ values_of (text_of twice.0) (parts_left names line))) (start_given line twice.0 cluster namespace at generate) twice.2)
+line_read names (Some f) values_in dirs_in line cluster namespace at generate read = record {
   whole = read.whole;
   dirs = read.dirs;
-  values = λ name. read.added name ∙ ap (λ vs. vs ++ values_of (text_of name) (parts_left names line)) (start_given line name cluster namespace at);
+  values = λ name. read.added name ∙ ap (λ vs. vs ++ values_of (text_of name) (parts_left names line)) (start_given line name cluster namespace at generate);
 }

@@ -1,5 +1,5 @@
 -- Lemmas on what words ask for.
-use Rattle.std.proofs.Common.{IsTrue, subst, ◌≡◌, ◌⊎◌, ◌≤◌, ℕ, Bool, true, false, ◌&&◌, nat_le, nat_lt, ◌<◌, ◌^◌, List, [], ◌∷◌, length, codes, Option, Some, None, option_and_then, if◌then◌else◌, inl, inr, ⊎_elim, refl, sym, ap, ◌∙◌, arith}
+use Rattle.std.proofs.Common.{IsTrue, subst, ◌≡◌, ◌⊎◌, ◌≤◌, ℕ, Bool, true, false, ◌&&◌, nat_le, nat_lt, ◌<◌, ◌^◌, List, [], ◌∷◌, length, codes, Option, Some, None, option_and_then, option_map, if◌then◌else◌, inl, inr, ⊎_elim, refl, sym, ap, ◌∙◌, arith}
 use Rattle.std.specs.List.{list_all}
 use Rattle.std.specs.Str.{bytes_eq}
 use Rattle.std.proofs.lemmas.Bool.{and_parts, and_from, leb-true, ltb-true, true≢false}
@@ -9,11 +9,12 @@ use Rattle.std.specs.Char.{is_ascii_digit}
 use Rattle.std.specs.Str.Parse.{digits_value}
 use Rattle.nn_base.specs.Words.{is_word}
 use Rattle.nn_base.specs.Limits.{most_dirs}
+use Rattle.nn_generate.specs.Generated.{most_files}
 use Rattle.nn_top.specs.Words.{Word, is_named, are_distinct, are_dirs}
 use Rattle.nn_top.specs.Parts.{Part, Given, Dir, Mark, Stray, parts_of, is_dir, is_known, follow, stand_together, is_line, no_dirs, dirs_among, values_of}
 use Rattle.nn_top.specs.Begins.{begins}
 use Rattle.nn_top.specs.Wanted.{Wanted, States, Format, Dry, Generate, Run, dirs_in}
-use Rattle.nn_top.specs.Commands.{states_in, dry_in, count_in, generate_for, generate_in, once, cluster_in, namespace_of, namespace_in, format_for, format_in, format_options, at_in, run_for, run_in, run_options, options_of, wanted_by, HaveNoReading}
+use Rattle.nn_top.specs.Commands.{states_in, dry_in, count_of, count_in, generate_for, generate_in, once, cluster_in, namespace_of, namespace_in, format_for, format_in, format_options, at_in, generated_in, run_for, run_in, run_options, options_of, wanted_by, HaveNoReading}
 use Rattle.nn_top.proofs.PartsLemmas.{dirless}
 
 -- words that ask for something have a reading
@@ -62,9 +63,10 @@ format_dirs None namespace dirs wanted e = let no : None ≡ Some wanted = e in 
 format_dirs (Some cluster) None dirs wanted e = let no : None ≡ Some wanted = e in cc
 format_dirs (Some cluster) (Some namespace) dirs wanted e = let same : Format cluster namespace dirs ≡ wanted = cc in ap dirs_in (sym same)
 
-run_dirs : (at : Option ℕ) (dirs : List Word) (wanted : Wanted) → run_for at dirs ≡ Some wanted → dirs_in wanted ≡ dirs
-run_dirs None dirs wanted e = let no : None ≡ Some wanted = e in cc
-run_dirs (Some at) dirs wanted e = let same : Run at dirs ≡ wanted = cc in ap dirs_in (sym same)
+run_dirs : (at : Option ℕ) (generated : Option (Option ℕ)) (dirs : List Word) (wanted : Wanted) → run_for at generated dirs ≡ Some wanted → dirs_in wanted ≡ dirs
+run_dirs None generated dirs wanted e = let no : None ≡ Some wanted = e in cc
+run_dirs (Some at) None dirs wanted e = let no : None ≡ Some wanted = e in cc
+run_dirs (Some at) (Some generated) dirs wanted e = let same : Run at generated dirs ≡ wanted = cc in ap dirs_in (sym same)
 
 read_with : (command : Word) (words : List Word) (wanted : Wanted) → (is_line (parts_of (options_of command) words) && are_dirs (dirs_among (parts_of (options_of command) words))) ≡ true → dirs_in wanted ≡ dirs_among (parts_of (options_of command) words) → Read command words wanted
 read_with command words wanted test dirs =
@@ -91,8 +93,9 @@ read_run : (words : List Word) (wanted : Wanted) → run_in (parts_of run_option
 read_run words wanted asks =
     let parts = parts_of run_options words in
     let at = at_in (values_of (codes "--at") parts) in
-    let test = if_some (is_line parts && are_dirs (dirs_among parts)) (run_for at (dirs_among parts)) wanted asks in
-    read_with (codes "run") words wanted test.0 (run_dirs at (dirs_among parts) wanted test.1)
+    let generated = generated_in (values_of (codes "--generate") parts) in
+    let test = if_some (is_line parts && are_dirs (dirs_among parts)) (run_for at generated (dirs_among parts)) wanted asks in
+    read_with (codes "run") words wanted test.0 (run_dirs at generated (dirs_among parts) wanted test.1)
 
 read_dry : (words : List Word) (wanted : Wanted) → dry_in (parts_of [] words) ≡ Some wanted → Read (codes "dry") words wanted
 read_dry words wanted asks =
@@ -219,9 +222,10 @@ format_range (command ∷ words) cluster namespace dirs asks = by (called comman
     timed : List Part
     timed = parts_of run_options words
 
-    no_run : (at : Option ℕ) → run_for at (dirs_among timed) ≡ Some wanted → ⊥
-    no_run None e = let no : None ≡ Some wanted = e in cc
-    no_run (Some at) e = let no : Some (Run at (dirs_among timed)) ≡ Some wanted = e in cc
+    no_run : (at : Option ℕ) (generated : Option (Option ℕ)) → run_for at generated (dirs_among timed) ≡ Some wanted → ⊥
+    no_run None generated e = let no : None ≡ Some wanted = e in cc
+    no_run (Some at) None e = let no : None ≡ Some wanted = e in cc
+    no_run (Some at) (Some generated) e = let no : Some (Run at generated (dirs_among timed)) ≡ Some wanted = e in cc
 
     by : Called command → IsTrue (is_word cluster) × (1 ≤ namespace) × (namespace ≤ 2147483647)
     by (a_state is) =
@@ -240,7 +244,8 @@ format_range (command ∷ words) cluster namespace dirs asks = by (called comman
     by (a_generate is) = absurd (no_generate plain wanted (λ count e. cc) (asked (codes "generate") is))
     by (a_run is) =
         let at = at_in (values_of (codes "--at") timed) in
-        absurd (no_run at (if_some (is_line timed && are_dirs (dirs_among timed)) (run_for at (dirs_among timed)) wanted (asked (codes "run") is)).1)
+        let generated = generated_in (values_of (codes "--generate") timed) in
+        absurd (no_run at generated (if_some (is_line timed && are_dirs (dirs_among timed)) (run_for at generated (dirs_among timed)) wanted (asked (codes "run") is)).1)
     by (no_command none) = absurd (read_or_not (command ∷ words) wanted asks (none words))
 
 -- ---- what `run` is asked with
@@ -259,17 +264,39 @@ time_small [] n e = let same : 0 ≡ n = cc in subst (λ k. k < 2 ^ 63) same (om
 time_small (value ∷ []) n e = number_small value n e
 time_small (value ∷ other ∷ values) n e = let no : None ≡ Some n = e in cc
 
-run_for_some : (at : Option ℕ) (dirs : List Word) (n : ℕ) (ds : List Word) → run_for at dirs ≡ Some (Run n ds) → at ≡ Some n
-run_for_some None dirs n ds e = let no : None ≡ Some (Run n ds) = e in cc
-run_for_some (Some at) dirs n ds e = let same : Some (Run at dirs) ≡ Some (Run n ds) = e in cc
+run_for_some : (at : Option ℕ) (generated : Option (Option ℕ)) (dirs : List Word) (n : ℕ) (files : Option ℕ) (ds : List Word) → run_for at generated dirs ≡ Some (Run n files ds) → (at ≡ Some n) × (generated ≡ Some files)
+run_for_some None generated dirs n files ds e = let no : None ≡ Some (Run n files ds) = e in cc
+run_for_some (Some at) None dirs n files ds e = let no : None ≡ Some (Run n files ds) = e in cc
+run_for_some (Some at) (Some generated) dirs n files ds e = let same : Some (Run at generated dirs) ≡ Some (Run n files ds) = e in (cc, cc)
 
--- a time below 2^63
-pub run_range : (words : List Word) (at : ℕ) (dirs : List Word) → wanted_by words ≡ Some (Run at dirs) → at < 2 ^ 63
-run_range [] at dirs asks = let no : None ≡ Some (Run at dirs) = asks in cc
-run_range (command ∷ words) at dirs asks = by (called command)
+-- a number of files, where one is given
+abbrev pub IsCount : Option ℕ → Type 0
+IsCount generated = (count : ℕ) → generated ≡ Some count → (1 ≤ count) × (count ≤ most_files)
+
+count_range : (number : Option ℕ) (n : ℕ) → option_and_then count_of number ≡ Some n → (1 ≤ n) × (n ≤ most_files)
+count_range None n e = let no : None ≡ Some n = e in cc
+count_range (Some number) n e =
+    let test = if_some (nat_le 1 number && nat_le number most_files) (Some number) n e in
+    let same : number ≡ n = let is = test.1 in cc in
+    let both = and_parts (nat_le 1 number) (nat_le number most_files) test.0 in
+    subst (λ k. (1 ≤ k) × (k ≤ most_files)) same (leb-true 1 number both.0, leb-true number most_files both.1)
+
+files_range : (values : List Word) (files : Option ℕ) → generated_in values ≡ Some files → IsCount files
+files_range [] files e = λ count is. let no : None ≡ files = cc in cc
+files_range (value ∷ []) files e = by (count_in value) refl e
+  where
+    by : (found : Option ℕ) → count_in value ≡ found → option_map Some found ≡ Some files → IsCount files
+    by None is e = let no : None ≡ Some files = e in cc
+    by (Some n) is e = λ count given. count_range (number_in value) count (is ∙ (let same : Some n ≡ Some count = let both : Some n ≡ files = cc in both ∙ given in same))
+files_range (value ∷ other ∷ values) files e = let no : None ≡ Some files = e in cc
+
+-- a time below 2^63, and perhaps a number of files
+pub run_range : (words : List Word) (at : ℕ) (files : Option ℕ) (dirs : List Word) → wanted_by words ≡ Some (Run at files dirs) → (at < 2 ^ 63) × IsCount files
+run_range [] at files dirs asks = let no : None ≡ Some (Run at files dirs) = asks in cc
+run_range (command ∷ words) at files dirs asks = by (called command)
   where
     wanted : Wanted
-    wanted = Run at dirs
+    wanted = Run at files dirs
 
     asked : (other : Word) → command ≡ other → wanted_by (other ∷ words) ≡ Some wanted
     asked other is = subst (λ c. wanted_by (c ∷ words) ≡ Some wanted) is asks
@@ -288,19 +315,22 @@ run_range (command ∷ words) at dirs asks = by (called command)
     no_format (Some cluster) None e = let no : None ≡ Some wanted = e in cc
     no_format (Some cluster) (Some namespace) e = let no : Some (Format cluster namespace (dirs_among parts)) ≡ Some wanted = e in cc
 
-    by : Called command → at < 2 ^ 63
+    by : Called command → (at < 2 ^ 63) × IsCount files
     by (a_state is) =
         let e = (if_some (is_line plain && are_dirs (dirs_among plain)) (Some (States (dirs_among plain))) wanted (asked (codes "state") is)).1 in
-        let no : States (dirs_among plain) ≡ Run at dirs = cc in cc
+        let no : States (dirs_among plain) ≡ Run at files dirs = cc in cc
     by (a_format is) =
         let cluster = option_and_then cluster_in (once (values_of (codes "--cluster") parts)) in
         let namespace = option_and_then namespace_in (once (values_of (codes "--namespace") parts)) in
         absurd (no_format cluster namespace (if_some (is_line parts && are_dirs (dirs_among parts)) (format_for cluster namespace (dirs_among parts)) wanted (asked (codes "format") is)).1)
     by (a_dry is) =
         let e = (if_some (is_line plain && no_dirs plain) (Some Dry) wanted (asked (codes "dry") is)).1 in
-        let no : Dry ≡ Run at dirs = cc in cc
+        let no : Dry ≡ Run at files dirs = cc in cc
     by (a_generate is) = absurd (no_generate plain wanted (λ count e. cc) (asked (codes "generate") is))
     by (a_run is) =
         let time = at_in (values_of (codes "--at") timed) in
-        time_small (values_of (codes "--at") timed) at (run_for_some time (dirs_among timed) at dirs (if_some (is_line timed && are_dirs (dirs_among timed)) (run_for time (dirs_among timed)) wanted (asked (codes "run") is)).1)
+        let generated = generated_in (values_of (codes "--generate") timed) in
+        let e = (if_some (is_line timed && are_dirs (dirs_among timed)) (run_for time generated (dirs_among timed)) wanted (asked (codes "run") is)).1 in
+        let both = run_for_some time generated (dirs_among timed) at files dirs e in
+        (time_small (values_of (codes "--at") timed) at both.0, files_range (values_of (codes "--generate") timed) files both.1)
     by (no_command none) = absurd (read_or_not (command ∷ words) wanted asks (none words))

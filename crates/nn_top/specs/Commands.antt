@@ -1,5 +1,5 @@
 -- What the words of the command line ask for.
-use Rattle.std.specs.Prelude.{◌≡◌, ℕ, ◌&&◌, nat_le, List, [], ◌∷◌, codes, Option, Some, None, option_and_then, if◌then◌else◌}
+use Rattle.std.specs.Prelude.{◌≡◌, ℕ, ◌&&◌, nat_le, List, [], ◌∷◌, codes, Option, Some, None, option_and_then, option_map, if◌then◌else◌}
 use Rattle.std.specs.Str.{bytes_eq}
 use Rattle.nn_base.specs.Decimal.{number_in}
 use Rattle.nn_base.specs.Words.{is_word}
@@ -74,16 +74,26 @@ at_in [] = Some 0
 at_in (value ∷ []) = number_in value
 at_in (value ∷ other ∷ values) = None
 
-abbrev pub run_for : Option ℕ → List Word → Option Wanted
-run_for None dirs = None
-run_for (Some at) dirs = Some (Run at dirs)
+-- for how many files its lines are generated: for none, where the words don't say it
+abbrev pub generated_in : List Word → Option (Option ℕ)
+generated_in [] = Some None
+generated_in (value ∷ []) = option_map Some (count_in value)
+generated_in (value ∷ other ∷ values) = None
 
--- `run` takes directories, and perhaps a time
+abbrev pub run_for : Option ℕ → Option (Option ℕ) → List Word → Option Wanted
+run_for None generated dirs = None
+run_for (Some at) None dirs = None
+run_for (Some at) (Some generated) dirs = Some (Run at generated dirs)
+
+-- `run` takes directories, and perhaps a time and a number of files
 abbrev pub run_in : List Part → Option Wanted
-run_in parts = if is_line parts && are_dirs (dirs_among parts) then run_for (at_in (values_of (codes "--at") parts)) (dirs_among parts) else None
+run_in parts =
+    if is_line parts && are_dirs (dirs_among parts)
+    then run_for (at_in (values_of (codes "--at") parts)) (generated_in (values_of (codes "--generate") parts)) (dirs_among parts)
+    else None
 
 abbrev pub run_options : List Word
-run_options = codes "--at" ∷ []
+run_options = codes "--at" ∷ codes "--generate" ∷ []
 
 -- the options that a command takes
 abbrev pub options_of : Word → List Word
@@ -109,4 +119,4 @@ wanted_in (command.State dirs) = States (texts dirs.now)
 wanted_in (command.Format cluster namespace dirs) = Format cluster namespace (texts dirs.now)
 wanted_in command.Dry = Dry
 wanted_in (command.Generate count) = Generate count
-wanted_in (command.Run at dirs) = Run at (texts dirs.now)
+wanted_in (command.Run at generated dirs) = Run at generated (texts dirs.now)

@@ -5,7 +5,7 @@ use Rattle.std.specs.Str.{bytes_eq}
 use Rattle.nn_base.specs.Limits.{most_dirs}
 use Rattle.nn_top.specs.Words.{Word, is_plain, can_stand_apart, is_among, are_dirs}
 use Rattle.nn_top.specs.Wanted.{Wanted, States}
-use Rattle.nn_top.specs.Commands.{once, cluster_in, namespace_in, format_for, at_in, run_for, options_of, count_in, generate_for}
+use Rattle.nn_top.specs.Commands.{once, cluster_in, namespace_in, format_for, at_in, generated_in, run_for, options_of, count_in, generate_for}
 use Rattle.nn_top.specs.Begins.{IsEnd}
 
 -- one to eight directories, none without a name, no two with the same
@@ -70,7 +70,7 @@ format_with choices dirs =
 
 -- what `run` asks for with these
 abbrev pub run_with : List GivenOption → List Word → Option Wanted
-run_with choices dirs = if are_dirs dirs then run_for (at_in (values_in (codes "--at") choices)) dirs else None
+run_with choices dirs = if are_dirs dirs then run_for (at_in (values_in (codes "--at") choices)) (generated_in (values_in (codes "--generate") choices)) dirs else None
 
 -- what such a command asks for with them
 abbrev pub asked_with : Word → List GivenOption → List Word → Option Wanted

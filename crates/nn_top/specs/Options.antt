@@ -3,7 +3,7 @@ use Rattle.std.specs.Prelude.{◌≡◌, ◌⊎◌, ◌≤◌, false, true, List
 use Rattle.std.specs.Borrow.{Bor}
 use Rattle.std.specs.List.{list_all}
 use Rattle.nn_top.specs.declared.words.options.OptionName.{OptionName}
-use Rattle.nn_top.specs.declared.words.options.OptionName.TheVariants.{Cluster, Namespace, At}
+use Rattle.nn_top.specs.declared.words.options.OptionName.TheVariants.{Cluster, Namespace, At, Generate}
 use Rattle.nn_top.specs.declared.words.line.Values.{Values}
 use Rattle.nn_top.specs.declared.words.line.Line.{Line}
 use Rattle.nn_top.specs.Words.{Word, texts, is_among}
@@ -15,6 +15,7 @@ abbrev pub text_of : OptionName → Word
 text_of Cluster = codes "--cluster"
 text_of Namespace = codes "--namespace"
 text_of At = codes "--at"
+text_of Generate = codes "--generate"
 
 abbrev pub texts_of : List OptionName → List Word
 texts_of names = map text_of names
@@ -37,6 +38,7 @@ abbrev pub given_to : Values → OptionName → List Word
 given_to values Cluster = given_value values.cluster
 given_to values Namespace = given_value values.namespace
 given_to values At = given_value values.at
+given_to values Generate = given_value values.generate
 
 -- ---- a whole line
 

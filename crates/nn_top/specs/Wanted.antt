@@ -1,5 +1,5 @@
 -- What the words of a command line ask for.
-use Rattle.std.specs.Prelude.{ℕ, List, []}
+use Rattle.std.specs.Prelude.{ℕ, List, [], Option}
 use Rattle.nn_base.specs.Paths.{Bytes}
 
 pub data Wanted : Type 0 where
@@ -11,8 +11,8 @@ pub data Wanted : Type 0 where
   Dry : Wanted
   -- the script of so many generated files, which is said
   Generate : ℕ → Wanted
-  -- a script on the namespace that these directories hold, from this time on
-  Run : ℕ → List Bytes → Wanted
+  -- a script on the namespace that these directories hold, from this time on: one that is read, or that of so many generated files
+  Run : ℕ → Option ℕ → List Bytes → Wanted
 
 -- the directories that a command is done on, in order
 abbrev pub dirs_in : Wanted → List Bytes
@@ -20,4 +20,4 @@ dirs_in (States dirs) = dirs
 dirs_in (Format cluster namespace dirs) = dirs
 dirs_in Dry = []
 dirs_in (Generate count) = []
-dirs_in (Run at dirs) = dirs
+dirs_in (Run at generated dirs) = dirs

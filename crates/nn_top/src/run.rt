@@ -9,13 +9,14 @@ ghost use Rattle.nn_server.specs.States.{StateRan, state_status};
 ghost use Rattle.nn_server.specs.Format.{FormatRan, format_status};
 ghost use Rattle.nn_server.specs.Dry.{DryRan};
 ghost use Rattle.nn_server.specs.Codes.{dry_status};
+ghost use Rattle.nn_generate.specs.Generated.{most_files};
 ghost use Rattle.nn_generate.specs.Said.{GenerateRan, generate_status};
 ghost use Rattle.nn_top.specs.Words.{texts};
 ghost use Rattle.nn_top.specs.Wanted.{dirs_in};
 ghost use Rattle.nn_top.specs.Commands.{wanted_by, HaveNoReading};
 ghost use Rattle.nn_top.specs.Lines.{last_line};
 ghost use Rattle.nn_top.specs.Ended.{Ended};
-ghost use Rattle.nn_top.specs.Runs.{RunDid};
+ghost use Rattle.nn_top.specs.Runs.{RunDid, FillDid};
 ghost use Rattle.nn_top.specs.Did.{Unread, Did};
 ghost use Rattle.nn_top.specs.Closes.{is_made, IsLast, last_call, Closing};
 
@@ -54,7 +55,10 @@ pub fn namenode<H: Host, S: Source>(
         } => run_format(alloc, host, cluster, *namespace),
         Command::Dry => run_dry(alloc, host, source),
         Command::Generate { count } => run_generate(alloc, host, *count),
-        Command::Run { at, .. } => run_dirs(alloc, host, source, *at),
+        Command::Run { at, generated, .. } => match generated {
+            Some(files) => run_files(alloc, host, *files, *at),
+            None => run_dirs(alloc, host, source, *at),
+        },
     }
 }
 
@@ -100,6 +104,15 @@ fn run_dirs<H: Host, S: Source>(alloc: Global, host: &mut H, source: &mut S, at:
         (H.state host.old) (H.state host.new) result }
 {
     let end = nn_serve::run(alloc, host, source, at);
+    close(alloc, host, end.status())
+}
+
+fn run_files<H: Host>(alloc: Global, host: &mut H, files: u32, at: u64) -> Status
+    requires at { at < 2 ^ 63 }
+    requires files { files ≤ most_files }
+    ensures { FillDid H.told at files (H.state host.old) (H.state host.new) result }
+{
+    let end = nn_serve::run_generated(alloc, host, files, at);
     close(alloc, host, end.status())
 }
 

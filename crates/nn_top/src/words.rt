@@ -44,10 +44,11 @@ pub enum Command<'a> {
     Generate {
         count: u32,
     },
-    /// `run --at T DIRS`: a script on the namespace that the directories hold, where the clock is at T milliseconds at first, or
-    /// at 0.
+    /// `run --at T --generate N DIRS`: a script on the namespace that the directories hold, where the clock is at T milliseconds
+    /// at first, or at 0. The script is that of N generated files, where N is given.
     Run {
         at: u64,
+        generated: Option<u32>,
         dirs: &'a [String],
     },
 }

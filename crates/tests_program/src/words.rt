@@ -58,7 +58,7 @@ const FORMAT: [(&str, Option<&str>); 26] = [
 ];
 
 // The same of `run`.
-const RUN: [(&str, Option<&str>); 36] = [
+const RUN: [(&str, Option<&str>); 46] = [
     ("run", None),
     ("run --", None),
     ("run --at 5", None),
@@ -95,6 +95,19 @@ const RUN: [(&str, Option<&str>); 36] = [
     ("run --cluster c1 A", None),
     ("state --at 5 A", None),
     ("dry --at 5", None),
+    ("run --generate 5 A", Some("A")),
+    ("run B --generate=500000 --at 5", Some("B")),
+    (
+        "run --at=5 --generate 1 -- -x --generate",
+        Some("-x --generate"),
+    ),
+    ("run --generate 0 A", None),
+    ("run --generate 500001 A", None),
+    ("run --generate= A", None),
+    ("run --generate -- A", None),
+    ("run --generate 1 A --generate 1", None),
+    ("run A --generate", None),
+    ("dry --generate 5", None),
 ];
 
 // Odd lines of each command.
@@ -297,24 +310,31 @@ fn format_is_read_with_its_cluster_and_namespace(rt: HostRuntime) -> Result<(), 
     Ok(())
 }
 
-fn is_read_at(command: Option<&Command<'_>>, time: u64) -> bool {
+fn asked_of_run(command: Option<&Command<'_>>) -> Option<(u64, Option<u32>)> {
     match command {
-        Some(Command::Run { at, .. }) => *at == time,
-        _ => false,
+        Some(Command::Run { at, generated, .. }) => Some((*at, *generated)),
+        _ => None,
     }
 }
 
 #[test]
-fn run_is_read_with_its_time(rt: HostRuntime) -> Result<(), Fail> {
+fn run_is_read_with_its_time_and_its_number_of_files(rt: HostRuntime) -> Result<(), Fail> {
     let lines = [
-        ("run A", 0),
-        ("run --at 5 A", 5),
-        ("run A --at=0007", 7),
-        ("run --at 9223372036854775807 A", 9_223_372_036_854_775_807),
+        ("run A", 0, None),
+        ("run --at 5 A", 5, None),
+        ("run A --at=0007", 7, None),
+        (
+            "run --at 9223372036854775807 A",
+            9_223_372_036_854_775_807,
+            None,
+        ),
+        ("run --generate 500000 A", 0, Some(500_000)),
+        ("run --generate=1 A --at=5", 5, Some(1)),
     ];
-    for (line, time) in lines {
+    for (line, time, files) in lines {
         let words = split(rt.alloc(), line)?;
-        assert!(rt; is_read_at(command_of(&words).as_ref(), time), "{line}");
+        let asked = asked_of_run(command_of(&words).as_ref());
+        assert_eq!(rt; asked, Some((time, files)), "{line}");
     }
     Ok(())
 }

@@ -20,8 +20,8 @@ pub fn generate_asked(words: &[String]) -> Option<Command<'_>>
     Some(Command::Generate { count })
 }
 
-// How many files a script is asked for.
-fn count_of(number: &[u8]) -> Option<u32>
+/// How many files a script is asked for.
+pub fn count_of(number: &[u8]) -> Option<u32>
     ensures { result ≡ count_in number.now }
 {
     let number = decimal::number(number)?;

@@ -14,6 +14,7 @@ pub struct Values<'a> {
     pub cluster: Option<&'a [u8]>,
     pub namespace: Option<&'a [u8]>,
     pub at: Option<&'a [u8]>,
+    pub generate: Option<&'a [u8]>,
 }
 
 impl<'a> Values<'a> {
@@ -24,6 +25,7 @@ impl<'a> Values<'a> {
             OptionName::Cluster => self.cluster,
             OptionName::Namespace => self.namespace,
             OptionName::At => self.at,
+            OptionName::Generate => self.generate,
         }
     }
 
@@ -45,6 +47,10 @@ impl<'a> Values<'a> {
                 at: Some(value),
                 ..self
             },
+            OptionName::Generate => Values {
+                generate: Some(value),
+                ..self
+            },
         }
     }
 }
@@ -60,6 +66,7 @@ pub fn line_of<'a>(names: &[OptionName], words: &'a [String]) -> Option<(Values<
                 cluster: None,
                 namespace: None,
                 at: None,
+                generate: None,
             },
             rest: words,
         },

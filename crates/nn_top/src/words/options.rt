@@ -14,6 +14,8 @@ pub enum OptionName {
     Namespace,
     /// `--at`, the clock as a run starts, in milliseconds.
     At,
+    /// `--generate`, for how many files the lines of a run are generated.
+    Generate,
 }
 
 impl OptionName {
@@ -24,6 +26,7 @@ impl OptionName {
             OptionName::Cluster => b"--cluster",
             OptionName::Namespace => b"--namespace",
             OptionName::At => b"--at",
+            OptionName::Generate => b"--generate",
         }
     }
 }

@@ -1,5 +1,6 @@
-// Runs that say a generated script.
-use super::{host_of, run_line};
+// Runs that say a generated script, or do its lines.
+use super::running::{fresh, run_script};
+use super::{has_said, host_of, run_line};
 use nn_memhost::{MemSource, Part};
 use std::alloc::Global;
 use std::process::Abort;
@@ -158,5 +159,95 @@ fn each_line_of_a_generated_script_is_taken(rt: HostRuntime) -> Result<(), Fail>
         all.push_str("ok\n")?;
     }
     assert!(rt; answers.as_slice() == all.as_bytes());
+    Ok(())
+}
+
+// Two runs over two new directories: the words of the first one, which of its calls fail behind its start, and what both say, with
+// their exit statuses. The script that is there isn't read by the first.
+struct Filling {
+    words: &'static str,
+    fails: &'static [(u64, Part)],
+    next: &'static str,
+    said: &'static str,
+    codes: (u8, u8),
+}
+
+// A command appends to a directory and syncs there, and then in the next, and nothing is said. The last segment is ended by three
+// calls in each.
+static FILLINGS: [Filling; 6] = [
+    Filling {
+        words: "run --generate 2 A B",
+        fails: &[],
+        next: "run A B",
+        said: "started 0\ncommands 7 ok 7\nstopped\nstarted 9\nrefused exists\nstopped\n",
+        codes: (0, 0),
+    },
+    Filling {
+        words: "run A B --at 5 --generate=101",
+        fails: &[],
+        next: "run --generate 102 A B",
+        said: "started 0\ncommands 305 ok 305\nstopped\nstarted 307\ncommands 308 ok 3\nstopped\n",
+        codes: (0, 0),
+    },
+    Filling {
+        words: "run --generate 2 A B",
+        fails: &[(3, Part::Nothing)],
+        next: "run A B",
+        said: "started 0\ncommands 7 ok 7\nstopped\nstarted 11\nrefused exists\nstopped\n",
+        codes: (0, 0),
+    },
+    Filling {
+        words: "run --generate 2 A B",
+        fails: &[(4, Part::Nothing), (5, Part::Nothing)],
+        next: "run A B",
+        said: "started 0\nnone left\nstarted 2\nrefused exists\nstopped\n",
+        codes: (4, 0),
+    },
+    Filling {
+        words: "run --generate 2 A B",
+        fails: &[(34, Part::Half)],
+        next: "run A B",
+        said: "started 0\ncommandsstarted 9\nrefused exists\nstopped\n",
+        codes: (8, 0),
+    },
+    Filling {
+        words: "run --generate 2 A B",
+        fails: &[(35, Part::Nothing)],
+        next: "run A B",
+        said: "started 0\ncommands 7 ok 7\nstarted 9\nrefused exists\nstopped\n",
+        codes: (8, 0),
+    },
+];
+
+fn fillings() -> &'static [Filling] {
+    &FILLINGS
+}
+
+// Whether both runs go as their row says, where the start of a first run is done after so many calls.
+fn fills_as(rt: &impl Abort, alloc: Global, begun: u64, row: &Filling) -> Result<bool, Fail> {
+    let mut fails = Vec::new(alloc);
+    for fail in row.fails {
+        fails.push((begun.saturating_add(fail.0), fail.1))?;
+    }
+    let mut host = fresh(rt, alloc, &fails)?;
+    let first = run_script(rt, alloc, row.words, "mkdir /g0\n", &mut host)?;
+    let second = run_script(rt, alloc, row.next, "mkdir /g0\n", &mut host)?;
+    let said = format!(in alloc; "formatted 2\n{}", row.said)?;
+    Ok(has_said(&host, said.as_str()) && (first, second) == row.codes)
+}
+
+// How many calls were made when a run has started. A run of no script ends its segment by six calls then, and says `stopped`.
+fn calls_of_a_start(rt: &impl Abort, alloc: Global) -> Result<u64, Fail> {
+    let mut host = fresh(rt, alloc, &[])?;
+    let _status = run_script(rt, alloc, "run A B", "", &mut host)?;
+    Ok(host.calls().saturating_sub(7))
+}
+
+#[test]
+fn a_run_over_generated_lines_says_how_many_were_taken(rt: HostRuntime) -> Result<(), Fail> {
+    let begun = calls_of_a_start(&rt, rt.alloc())?;
+    for (k, row) in fillings().iter().enumerate() {
+        assert!(rt; fills_as(&rt, rt.alloc(), begun, row)?, "row {k}");
+    }
     Ok(())
 }

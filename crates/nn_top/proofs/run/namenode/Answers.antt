@@ -31,4 +31,4 @@ pub run_dirs-requires : goal.run_dirs-requires
 run_dirs-requires g c =
     let words = texts c.args.words.now in
     let asked = subst (λ (command : Command). wanted_by words ≡ Some (wanted_in command)) c.in-Run.is c.in-Some.ensures.some in
-    run_range words c.in-Run.at (texts c.in-Run.dirs.now) asked
+    (run_range words c.in-Run.at c.in-Run.generated (texts c.in-Run.dirs.now) asked).0
