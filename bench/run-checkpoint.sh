@@ -1,8 +1,9 @@
 #!/bin/sh
 # What a start over an image, and a checkpoint, cost: instructions of a run without a line, and of one with the line `checkpoint`, less those
 # of a run over an empty namespace. Files of one block each stand in directories of a hundred. Instructions are told by valgrind, and hold
-# on a busy machine; the peak of memory is that of the process, in kB. The arguments are how many files, 20000 without them, and the folder
-# to work in, a temporary one without it. PEER, where it is set, is another program with the same commands, which is measured beside.
+# on a busy machine. Memory is the peak of the process: what a checkpoint takes besides the tree is told by a run that makes the nodes, so
+# that no image was loaded in it, with the line at its end and without it. The arguments are how many files, 20000 without them, and the
+# folder to work in, a temporary one without it. PEER, where it is set, is another program with the same commands, which is measured beside.
 set -eu
 cd "$(dirname "$0")/.."
 files=${1:-20000}
@@ -20,6 +21,7 @@ awk -v files="$files" 'BEGIN {
 }' > "$work/files"
 : > "$work/nothing"
 echo checkpoint > "$work/line"
+cat "$work/files" "$work/line" > "$work/files_line"
 nodes=$((files + (files + 99) / 100 + 1))
 
 instructions() {
@@ -41,7 +43,9 @@ for program in "$ours" ${PEER:+"$PEER"}; do
     bare_line=$(instructions "$program" line)
     bare_peak=$(peak "$program" nothing)
     fresh "$program"
-    "$program" run "$work/d" < "$work/files" > /dev/null
+    made_line=$(peak "$program" files_line)
+    fresh "$program"
+    made=$(peak "$program" files)
     # The first start after a run reads its records, the second the image alone.
     "$program" run "$work/d" < "$work/nothing" > /dev/null
     start=$(instructions "$program" nothing)
@@ -49,6 +53,5 @@ for program in "$ours" ${PEER:+"$PEER"}; do
     echo "  a start over the image: $(((start - bare) / nodes)) instructions a node"
     echo "  a checkpoint: $(((line - start - bare_line + bare) / nodes)) instructions a node"
     before=$(peak "$program" nothing)
-    after=$(peak "$program" line)
-    echo "  memory: $(((before - bare_peak) * 1024 / nodes)) bytes a node at a start, and $((after - before)) kB more with a checkpoint"
+    echo "  memory: $(((before - bare_peak) * 1024 / nodes)) bytes a node at a start over the image, $(((made - bare_peak) * 1024 / nodes)) in the run that made them; a checkpoint takes $((made_line - made)) kB more there"
 done

@@ -419,7 +419,7 @@ def a_call_that_fails_before_the_start_is_answered_ends_the_run(place):
 class Talk:
     """A run that is given its script line by line."""
 
-    def __init__(self, place, words, **more):
+    def __init__(self, place, words, begins=0, **more):
         self.child = subprocess.Popen(
             [place.program, *words.split()],
             cwd=place.path,
@@ -430,7 +430,7 @@ class Talk:
             bufsize=1,
             **more,
         )
-        self.hears("started 0")
+        self.hears(f"started {begins}")
 
     def hears(self, answer):
         same("an answer", self.child.stdout.readline(), answer + "\n")
@@ -483,6 +483,39 @@ def a_folder_that_comes_back_is_taken_back_once_it_is_whole(place):
     same("the end", talk.ends(), ("stopped\n", 0))
     last = reader.Chain(place.at("B", "current")).last
     place.says("run B", "list /b\n", f"started {last}|d 16387 0755 hdfs supergroup 0 - - 1 0 /b|ok 1|stopped")
+
+
+@row
+def ten_checkpoints_in_two_runs_leave_folders_of_one_size(place):
+    place.formatted("A B")
+    sizes, begins = [], 0
+    for first in (0, 5):
+        talk = Talk(place, "run A B", begins)
+        for turn in range(first, first + 5):
+            for line in a_turn(turn):
+                talk.asks(line, "ok")
+            talk.asks("checkpoint", "ok")
+            for name in "AB":
+                files = os.listdir(place.at(name, "current"))
+                ids = sorted(number for number in (reader.numbered(file, "fsimage_") for file in files) if number is not None)
+                same("how many images there are", len(ids), 2)
+                older, newer = ids
+                place.holds(name, *images(older), *images(newer), edits(older + 1, newer), in_progress(newer + 1))
+                sizes.append(sum(os.path.getsize(place.at(name, "current", file)) for file in files))
+        same("the end", talk.ends(), ("stopped\n", 0))
+        # The marks at both ends of the last segment took an id each.
+        begins = newer + 2
+    # Two images of as many nodes, and the segment of one turn between them, from the second turn on. Numbers may take a byte more.
+    same("the sizes", [size for size in sizes[2:] if not sizes[2] <= size <= sizes[2] + 64], [])
+
+
+def a_turn(number):
+    """Lines that put twenty files in the place of those of the turn before."""
+    yield f"mkdir /t{number}"
+    for k in range(20):
+        yield from (f"create /t{number}/f{k} 3", f"block /t{number}/f{k} {1000 + k}", f"close /t{number}/f{k}")
+    if number > 0:
+        yield f"delete /t{number - 1}"
 
 
 @row
