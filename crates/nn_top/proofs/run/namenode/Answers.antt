@@ -32,3 +32,15 @@ run_dirs-requires g c =
     let words = texts c.args.words.now in
     let asked = subst (λ (command : Command). wanted_by words ≡ Some (wanted_in command)) c.in-Run.is c.in-Some.ensures.some in
     (run_range words c.in-Run.at c.in-Run.generated (texts c.in-Run.dirs.now) asked).0
+
+pub run_files-requires-clause-at : goal.run_files-requires-clause-at
+run_files-requires-clause-at g c =
+    let words = texts c.args.words.now in
+    let asked = subst (λ (command : Command). wanted_by words ≡ Some (wanted_in command)) c.in-Run.is c.in-Some.ensures.some in
+    (run_range words c.in-Run.at c.in-Run.generated (texts c.in-Run.dirs.now) asked).0
+
+pub run_files-requires-clause-files : goal.run_files-requires-clause-files
+run_files-requires-clause-files g c =
+    let words = texts c.args.words.now in
+    let asked = subst (λ (command : Command). wanted_by words ≡ Some (wanted_in command)) c.in-Run.is c.in-Some.ensures.some in
+    ((run_range words c.in-Run.at c.in-Run.generated (texts c.in-Run.dirs.now) asked).1 c.in-Some-generated.files c.in-Some-generated.is).1

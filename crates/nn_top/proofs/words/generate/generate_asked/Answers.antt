@@ -1,7 +1,7 @@
 use Rattle.std.proofs.Common.{◌≡◌, [], ◌∷◌, sym, ap, ◌∙◌}
 use Rattle.std.specs.String.{string_bytes}
 use Rattle.std.proofs.lemmas.Bool.{true≢false}
-use Rattle.nn_top.specs.Words.{Word, texts}
+use Rattle.nn_top.specs.Words.{texts}
 use Rattle.nn_top.specs.Parts.{parts_of}
 use Rattle.nn_top.specs.Commands.{generate_in}
 use Rattle.nn_top.proofs.GenerateLemmas.{number_followed}
