@@ -1,7 +1,7 @@
 use Rattle.std.proofs.Common.{arith, ap, sym, subst, ◌∙◌, ◌≡◌, ◌++◌, ◌∷◌, [], ◌<◌, None, length}
 use Rattle.std.specs.FinMap as map
 use Rattle.nn_base.specs.Paths.{Names, is_under}
-use Rattle.nn_tree.proofs.PrefixLemmas.{front_and_name, not_under_longer}
+use Rattle.nn_tree.proofs.PrefixLemmas.{not_under_longer}
 use Rattle.tests_namespace.proofs.tree.move_up.Goals as goal
 
 pub relink-requires-clause-outside : goal.relink-requires-clause-outside
@@ -11,6 +11,6 @@ relink-requires-clause-outside g c =
 
 pub relink-requires-clause-free : goal.relink-requires-clause-free
 relink-requires-clause-free g c =
-    let deep : 0 < c.depth-2.result = omega arith in
-    let is = front_and_name c.args.to.now c.in_ok-above.above c.in_ok-name.name c.name.result.now c.depth-2.result c.depth-2.ensures.value deep c.in_ok-above.ensures c.name.ensures c.in_ok-name.ensures in
-    subst (λ (p : Names). map.get (g.T.Tree.meaning c.args.tree.now).nodes p ≡ None) (is ∙ ap (λ (p : Names). p ++ c.in_ok-name.name ∷ []) (sym c.found-parent.ensures.place)) c.missing.ensures.free
+    let name = c.in_ok-name.name in
+    let is = c.in_ok-name.ensures ∙ ap (λ (p : Names). p ++ name ∷ []) (sym c.in_ok-above.ensures) in
+    subst (λ (p : Names). map.get (g.T.Tree.meaning c.args.tree.now).nodes p ≡ None) (is ∙ ap (λ (p : Names). p ++ name ∷ []) (sym c.found-parent.ensures.place)) c.missing.ensures.free
