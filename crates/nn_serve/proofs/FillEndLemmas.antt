@@ -1,5 +1,5 @@
 -- How a run over generated files ends: its last segment is ended, and it says how many commands there were.
-use Rattle.std.proofs.Common.{◌≡◌, ◌≢◌, inl, inr, ℕ, ◌+◌, ◌-◌, ◌<◌, ◌≤◌, ◌^◌, Bool, true, false, List, [], ◌∷◌, ◌++◌, length, take, drop, codes, Ok, Err, None, Some, Option, Result, refl, sym, ◌∙◌, ap, subst, arith, lit<, append_assoc, length-append}
+use Rattle.std.proofs.Common.{◌≡◌, inl, inr, ℕ, ◌<◌, ◌≤◌, ◌^◌, Bool, true, false, List, [], ◌∷◌, ◌++◌, length, take, drop, codes, Ok, Err, None, Some, Option, Result, refl, sym, ◌∙◌, ap, subst, arith, lit<, append_assoc, length-append}
 use Rattle.std.specs.Fmt.{decimal}
 use Rattle.std.proofs.lemmas.Fmt.{length-decimal-le}
 use Rattle.std.proofs.lemmas.List.{append-nil, take-append-drop}
@@ -22,7 +22,7 @@ use Rattle.nn_script.specs.Lines.{lines_of}
 use Rattle.nn_generate.specs.Generated.{script_of}
 use Rattle.nn_journal.specs.declared.journal.JournalSet.{JournalSet}
 use Rattle.nn_run.specs.Running.{Running}
-use Rattle.nn_run.specs.Course.{dirs_of, started_line, RunKept}
+use Rattle.nn_run.specs.Course.{dirs_of, RunKept}
 use Rattle.nn_run.specs.Flights.{OnlySays}
 use Rattle.nn_run.specs.Steps.{BetweenLines, is_of_step}
 use Rattle.nn_run.proofs.SyncLemmas.{between_same}
@@ -45,7 +45,7 @@ use Rattle.nn_serve.specs.Filled.{CameFilled}
 use Rattle.nn_serve.specs.Filling.{IsFilling, SaysTally}
 use Rattle.nn_serve.proofs.SinceLemmas.{said_of, since_is, since_all, speaks_whole, goes_on, step_counts, none_live}
 use Rattle.nn_serve.proofs.FillLemmas.{unseen_base}
-use Rattle.nn_serve.proofs.FillOutLemmas.{here_said, here_started, came_by, out_lost, out_starved}
+use Rattle.nn_serve.proofs.FillOutLemmas.{StaysClosed, never_said, little_then, here_said, here_started, came_by, out_lost, out_starved}
 
 pub tally_short : (commands taken : ℕ) → commands < 2 ^ 64 → taken < 2 ^ 64 → length (count_line commands taken) ≤ most_said
 tally_short commands taken one two =
@@ -149,6 +149,12 @@ module _ {told : Type 0} (at files count : ℕ) (version : Version) (ns : Namesp
           none_reads : (d : Disk) (c : Reads) (first : ℕ) → Leaves d c → d.file Current (InProgress first) ≡ None → c.file Current (InProgress first) ≡ None
           none_reads d c first left e = none_file (d.file Current (InProgress first)) (c.file Current (InProgress first)) (left.files Current (InProgress first)) e
 
+      -- before that each directory came to stay as it is
+      stays_closed : {T F : Type 0} {result : Result T F} → Spoke told tally_bytes mid new result → (t : told) (opened : Opening) (opens : Opens (dirs_of old) Start opened) → opened.book.saved ≡ None → StaysClosed opened old new new
+      stays_closed spoke t opened opens none =
+          throughout_trans (never_said old mid opened new (little_then at files count version ns time journal (lines_of (script_of files)) tally old s filling mid ended.went.quiet t opened opens none))
+          (throughout_weaker (throughout_told (λ (u : Unit {0}). t) (throughout_said spoke)) (λ u m same long. record { disks = λ j. ap (λ (d : ℕ → Dir). (d j).disk) (same ∙ sym spoke.dirs) }))
+
       -- it was said
       pub closed_told : {F : Type 0} (v : Unit {0}) → Spoke {T = Unit {0}} {E = F} told tally_bytes mid new (Ok v) → (told → IsLawful new) → CameFilled told at files old new Ended
       closed_told v spoke lawful =
@@ -156,7 +162,7 @@ module _ {told : Type 0} (at files count : ℕ) (version : Version) (ns : Namesp
           (spoke.ok t).said ∙ ap (λ x. x ++ tally_bytes) (ended.went.quiet.now.said ∙ here_said at files count version ns time journal (lines_of (script_of files)) tally old s filling t) ∙ append_assoc old.now.said (said_of old s) tally_bytes in
           let out = goes_on old mid new (goes_on old s mid filling.out (out_whole_unspoken ended.went.quiet, ended.went.quiet.now.out_faults)) (out_spoke spoke, spoke.counted_ok) in
           came_by at files count version ns time journal (lines_of (script_of files)) tally old s filling new Ended (said_of old s ++ tally_bytes) (speaks_whole old new (said_of old s ++ tally_bytes) (run_status Ended) refl out said)
-          (λ r e. cc e) (behind spoke)
+          (λ r e. cc e) (λ e. cc e, λ e. cc e) (stays_closed spoke) (behind spoke)
           (λ t opened opens none. (λ i. here_started at files count version ns time journal (lines_of (script_of files)) tally old s filling t opened opens none i ++ tally_is t opened opens none i))
           (λ t begins ahead. tally_kept (Ok done) ended new t begins ahead (says_tally spoke t begins.sound.opened begins.sound.opens begins.unsaved))
           (λ t e begins. leaves_last v spoke (lawful t) t begins)
@@ -176,7 +182,7 @@ module _ {told : Type 0} (at files count : ℕ) (version : Version) (ns : Namesp
             silent = silent_after before (silent_spoke spoke);
             whole = λ e. absurd (cc e);
           })
-          (λ r e. cc e) (behind spoke)
+          (λ r e. cc e) (λ e. cc e, λ e. cc e) (stays_closed spoke) (behind spoke)
           (λ t opened opens none.
           let text = since_is old new (said_of old s ++ take (front t).0 tally_bytes) (front t).1 in
           let start = here_started at files count version ns time journal (lines_of (script_of files)) tally old s filling t opened opens none in (

@@ -1,14 +1,14 @@
 -- One line of a run over generated files, and then the next.
-use Rattle.std.proofs.Common.{◌≡◌, inl, inr, ⊎_elim, ℕ, ◌+◌, ◌*◌, ◌-◌, ◌<◌, ◌≤◌, ◌^◌, Bool, true, false, if◌then◌else◌, List, [], ◌∷◌, ◌++◌, length, Ok, Err, Some, None, Option, Result, refl, sym, ◌∙◌, ap, subst, arith, append_assoc, length-append}
+use Rattle.std.proofs.Common.{◌≡◌, ⊎_elim, ℕ, ◌+◌, Bool, true, false, if◌then◌else◌, List, [], ◌∷◌, ◌++◌, length, Ok, Some, None, Option, Result, refl, sym, ◌∙◌, ap, subst, arith, length-append}
 use Rattle.std.specs.Prelude.{is_none, nat_lt, ◌&&◌}
 use Rattle.std.specs.List.{filter}
-use Rattle.std.proofs.lemmas.List.{append-nil, map-append}
+use Rattle.std.proofs.lemmas.List.{map-append}
 use Rattle.std.proofs.lemmas.List.Elements.{filter-append}
-use Rattle.nn_base.specs.DirSets.{has, count_of}
+use Rattle.nn_base.specs.DirSets.{has}
 use Rattle.nn_base.specs.Paths.{Bytes}
-use Rattle.nn_host.specs.Moments.{State, faults_at}
-use Rattle.nn_host.specs.Runs.{Throughout, Unspoken}
-use Rattle.nn_host.proofs.RunsLemmas.{out_whole_unspoken, throughout_told, throughout_weaker}
+use Rattle.nn_host.specs.Moments.{State}
+use Rattle.nn_host.specs.Runs.{Unspoken}
+use Rattle.nn_host.proofs.RunsLemmas.{throughout_told, throughout_weaker}
 use Rattle.nn_marks.specs.declared.version.Version.{Version}
 use Rattle.nn_tree.specs.Namespace.{Namespace}
 use Rattle.nn_pick.specs.declared.intent.Intent.TheVariants.{Start}
@@ -24,26 +24,22 @@ use Rattle.nn_journal.specs.declared.journal.JournalSet.{JournalSet}
 use Rattle.nn_journal.specs.Among.{EachCounted, StaysLive, IsDropped}
 use Rattle.nn_run.specs.Running.{Running, Asked, RunReply, reply_at, after_asked, Back, restored_dir, back_of, back_at, base_by, base_after}
 use Rattle.nn_run.specs.Window.{Answered, commands_of}
-use Rattle.nn_run.specs.Course.{dirs_of, started_line, first_of}
+use Rattle.nn_run.specs.Course.{dirs_of, first_of}
 use Rattle.nn_run.specs.Steps.{StepKept}
 use Rattle.nn_run.proofs.LineLemmas.{commands_append}
 use Rattle.nn_run.proofs.WindowLemmas.{if_false}
-use Rattle.nn_whole.proofs.CountedLemmas.{next_is_counted}
 use Rattle.nn_fill.specs.Filled.{unseen, generated}
 use Rattle.nn_fill.specs.Tally.{is_taken, taken_of, commands_by}
-use Rattle.nn_fill.specs.Tallying.{Tallying, KeepBooks, books_of, IsStillLive}
+use Rattle.nn_fill.specs.Tallying.{Tallying, IsStillLive}
 use Rattle.nn_fill.proofs.TallyLemmas.{step_keeps_books, tallying_next}
 use Rattle.nn_core.specs.declared.event.End.{End}
 use Rattle.nn_core.specs.Standing.{HasIds}
 use Rattle.nn_core.specs.Events.{running}
 use Rattle.nn_core.specs.Performed.{HasPerformed}
-use Rattle.nn_core.proofs.LineLemmas.{has_answer, reply_is}
+use Rattle.nn_core.proofs.LineLemmas.{has_answer}
 use Rattle.nn_serve.specs.declared.tally.Tally.{Tally}
-use Rattle.nn_serve.specs.Ran.{asked_at, BeginsSoundly, NoneFailed}
-use Rattle.nn_serve.specs.Serving.{HasRoom}
+use Rattle.nn_serve.specs.Ran.{asked_at, BeginsSoundly}
 use Rattle.nn_serve.specs.Filling.{unseen_at, Tallies, IsFilling}
-use Rattle.nn_serve.proofs.SinceLemmas.{goes_on, step_counts, opening_on, starts_on}
-use Rattle.nn_serve.proofs.TurnLemmas.{room_ids, room_after}
 
 -- ---- lines at which nothing is seen
 

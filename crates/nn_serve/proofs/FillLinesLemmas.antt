@@ -1,5 +1,5 @@
 -- The lines of a text, done one after another, and the lines of files.
-use Rattle.std.proofs.Common.{◌≡◌, ℕ, suc, ◌+◌, ◌*◌, ◌<◌, ◌≤◌, ◌^◌, List, [], ◌∷◌, ◌++◌, length, take, drop, Ok, Err, Some, None, Option, Result, refl, sym, ◌∙◌, ap, subst, arith, append_assoc, append-nil, length-append}
+use Rattle.std.proofs.Common.{◌≡◌, ℕ, ◌+◌, List, [], ◌∷◌, ◌++◌, length, take, drop, Ok, Err, Some, None, Result, sym, ◌∙◌, ap, subst, arith, append_assoc, append-nil}
 use Rattle.std.specs.List.{position}
 use Rattle.nn_base.specs.Paths.{Bytes}
 use Rattle.nn_base.proofs.MarkLemmas.{is_mark}

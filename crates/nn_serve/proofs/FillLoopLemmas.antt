@@ -1,13 +1,12 @@
 -- A run over generated files from its start on: before the first of its lines, file after file, and where it never started.
-use Rattle.std.proofs.Common.{◌≡◌, ◌≢◌, ◌⊎◌, inl, inr, ⊎_elim, ℕ, suc, zero, ◌+◌, ◌*◌, ◌-◌, ◌<◌, ◌≤◌, ◌^◌, Bool, true, List, [], ◌∷◌, ◌++◌, length, take, drop, map, Ok, Err, None, Option, Result, refl, sym, ◌∙◌, ap, subst, arith, append_assoc}
+use Rattle.std.proofs.Common.{◌≡◌, inl, inr, ⊎_elim, ℕ, suc, zero, ◌+◌, ◌*◌, ◌-◌, ◌<◌, ◌≤◌, ◌^◌, true, List, [], ◌++◌, length, take, map, Ok, Err, None, Result, refl, sym, ◌∙◌, ap, subst, arith, append_assoc}
 use Rattle.std.proofs.lemmas.List.{append-nil, length-append, length-drop, length-take}
 use Rattle.nn_base.specs.DirSets.{has}
-use Rattle.nn_base.specs.Limits.{most_script}
 use Rattle.nn_base.specs.Paths.{Bytes}
 use Rattle.nn_host.specs.Moments.{State, faults_at}
 use Rattle.nn_host.specs.Calls.{Spoke}
-use Rattle.nn_host.specs.Runs.{Throughout, Unspoken}
-use Rattle.nn_host.proofs.RunsLemmas.{said_front, throughout_told, throughout_trans, throughout_weaker, unspoken_refl}
+use Rattle.nn_host.specs.Runs.{Unspoken}
+use Rattle.nn_host.proofs.RunsLemmas.{said_front, throughout_told, throughout_trans, throughout_weaker}
 use Rattle.nn_marks.specs.declared.version.Version.{Version}
 use Rattle.nn_tree.specs.Namespace.{Namespace}
 use Rattle.nn_pick.specs.declared.intent.Intent.TheVariants.{Start}
@@ -17,7 +16,7 @@ use Rattle.nn_script.specs.Lines.{lines_of}
 use Rattle.nn_generate.specs.Generated.{script_of, file_lines}
 use Rattle.nn_journal.specs.declared.journal.JournalSet.{JournalSet}
 use Rattle.nn_run.specs.Running.{Asked}
-use Rattle.nn_run.specs.Window.{text_of, said_since}
+use Rattle.nn_run.specs.Window.{text_of}
 use Rattle.nn_run.specs.Course.{dirs_of, opening_of, answers_of, started_line}
 use Rattle.nn_whole.specs.Served.{Serving}
 use Rattle.nn_fill.specs.Filled.{generated}
@@ -29,20 +28,20 @@ use Rattle.nn_serve.specs.declared.ending.RunEnd.{RunEnd}
 use Rattle.nn_serve.specs.declared.ending.RunEnd.TheVariants.{Ended, Refused, HostFault, NoneLeft, SourceFault, ScriptTooLong, Memory, OutFault}
 use Rattle.nn_serve.specs.declared.tally.Tally.{Tally}
 use Rattle.nn_serve.specs.Ended.{run_end, run_reached}
-use Rattle.nn_serve.specs.Ran.{asked_at, BeginsSoundly, CausedBy}
+use Rattle.nn_serve.specs.Ran.{asked_at, CausedBy}
 use Rattle.nn_serve.specs.Serving.{HasBegun, IsServing, HasRoom, EndsSo}
 use Rattle.nn_serve.specs.Turns.{SaysStarted}
 use Rattle.nn_serve.specs.Filled.{FilledSays, CameFilled}
-use Rattle.nn_serve.specs.Filling.{IsFilling, FillsTo, Fills}
+use Rattle.nn_serve.specs.Filling.{IsFilling, FillsTo, Fills, SaysLittle}
 use Rattle.nn_serve.proofs.LoopLemmas.{room_less}
 use Rattle.nn_serve.proofs.OpeningLemmas.{out_begun, out_unsaid}
-use Rattle.nn_serve.proofs.FillOutLemmas.{Completes}
+use Rattle.nn_serve.proofs.FillOutLemmas.{Completes, never_said}
 
 -- ---- before the first line
 
-pub filling_first : {told : Type 0} (at files count : ℕ) (version : Version) (ns : Namespace) (time : ℕ) (journal : JournalSet) (tally : Tally) (old s : State) → tally.commands ≡ 0 → tally.taken ≡ 0 → IsServing told at count version ns time journal [] old s
+pub filling_first : {told : Type 0} (at files count : ℕ) (version : Version) (ns : Namespace) (time : ℕ) (journal : JournalSet) (tally : Tally) (old s : State) → tally.commands ≡ 0 → tally.taken ≡ 0 → IsServing told at count version ns time journal [] old s → SaysLittle told old s
     → IsFilling told at files count version ns time journal (lines_of (script_of 0)) tally old s
-filling_first at files count version ns time journal tally old s commands taken serving = record {
+filling_first at files count version ns time journal tally old s commands taken serving little = record {
   listed = serving.listed;
   ready = serving.ready;
   sees = serving.sees;
@@ -53,6 +52,7 @@ filling_first at files count version ns time journal tally old s commands taken 
   said = λ t opened opens none.
       let come = serving.said t opened opens none in
       (come.0.said ∙ ap (λ text. old.now.said ++ text) (append-nil (started_line opened.last)), come.1, (commands, taken));
+  little = little;
   opening = serving.opening;
   started = serving.started;
   tallying = λ t begins ahead.
@@ -92,10 +92,6 @@ module _ {told : Type 0} (at files count k : ℕ) (version : Version) (ns : Name
 
 -- ---- where it never started
 
--- no more than the opening was said
-abbrev pub SaysLittle : Type 0 → ℕ → State → State → Type 0
-SaysLittle told at old new = told → (begins : BeginsSoundly old) → Throughout (Unit {0}) old new (λ m. length (said_since old m) ≤ length (text_of (opening_of (asked_at at) begins.sound.opens.version.ctime begins.sound.opened)))
-
 take_none : {A : Type 0} (n : ℕ) → take {A = A} n [] ≡ []
 take_none zero = refl
 take_none (suc n) = refl
@@ -103,6 +99,9 @@ take_none (suc n) = refl
 -- nothing was answered but the opening
 bare : (at count ctime : ℕ) (opened : Opening) (reached : ℕ) → answers_of (asked_at at) count ctime opened (take reached []) ≡ started_line opened.last
 bare at count ctime opened reached = ap (λ (seen : List Asked). answers_of (asked_at at) count ctime opened seen) (take_none reached) ∙ append-nil (started_line opened.last)
+
+early_unlike : (other end : RunEnd) → run_reached end ≡ OnTheWay → end ≡ other → (run_reached other ≡ OnTheWay → ⊥) → ⊥
+early_unlike other end way is not = not (sym (ap run_reached is) ∙ way)
 
 early_ended : (end : RunEnd) → run_reached end ≡ OnTheWay → end ≡ Ended → ⊥
 early_ended end way is = let at_end = sym (ap run_reached is) ∙ way in cc at_end
@@ -135,7 +134,7 @@ module _ {told : Type 0} (at files : ℕ) (old new : State) where
   early_completes Memory way so t opened opens out same i below few still = inr (inl refl)
   early_completes OutFault way so t opened opens out same i below few still = absurd (omega (arith, out, same, so.speaks.counted))
 
-  pub filled_early : (end : RunEnd) → run_reached end ≡ OnTheWay → EndsSo told at old new [] end → SaysLittle told at old new → CameFilled told at files old new end
+  pub filled_early : (end : RunEnd) → run_reached end ≡ OnTheWay → EndsSo told at old new [] end → SaysLittle told old new → CameFilled told at files old new end
   filled_early end way so little = record {
     lines = so.text;
     speaks = so.speaks;
@@ -143,9 +142,15 @@ module _ {told : Type 0} (at files : ℕ) (old new : State) where
       said = λ t opened opens none. early_says (tally_of (commands_by (asked_at at) old.count opened (generated files))) end way so t opened opens none;
       opening = so.opening;
       started = so.started;
-      kept = λ t begins ahead. opening_is_tallied (asked_at at) begins.sound.opens.version.ctime begins.sound.opened ahead (generated files) old new (little t begins) (so.kept t begins ahead []);
+      closed = λ t opened opens none. never_said old new opened new (little t opened opens none);
+      kept = λ t begins ahead.
+          let opened = begins.sound.opened in
+          let long : length (text_of (opening_of (asked_at at) begins.sound.opens.version.ctime opened)) ≡ length (started_line opened.last) = ap length (append-nil (started_line opened.last)) in
+          opening_is_tallied (asked_at at) begins.sound.opens.version.ctime opened ahead (generated files) old new
+          (throughout_weaker (little t opened begins.sound.opens begins.unsaved) (λ u m short. omega (arith, short, long))) (so.kept t begins ahead []);
       ended = λ t is. absurd (early_ended end way is);
       refused = so.refused;
+      unread = (λ is. early_unlike SourceFault end way is (λ e. cc e), λ is. early_unlike ScriptTooLong end way is (λ e. cc e));
       cause = subst (λ (lines : List Asked). CausedBy old new lines end) (take_none so.reached) so.cause;
       once = so.once;
       complete = early_completes end way so;
@@ -153,16 +158,16 @@ module _ {told : Type 0} (at files : ℕ) (old new : State) where
   }
 
 -- nothing was said
-pub little_quiet : {told : Type 0} (at : ℕ) (old new : State) → Unspoken told old new → SaysLittle told at old new
-little_quiet at old new quiet t begins = throughout_weaker (throughout_told (λ (u : Unit {0}). t) quiet.each) (λ u m out. omega (arith, length-drop (length old.now.said) m.said, ap length out.said))
+pub little_quiet : {told : Type 0} (old new : State) → Unspoken told old new → SaysLittle told old new
+little_quiet old new quiet t opened opens none = throughout_weaker (throughout_told (λ (u : Unit {0}). t) quiet.each) (λ u m out. omega (arith, length-drop (length old.now.said) m.said, ap length out.said))
 
 -- or a front of the opening
-little_front : {told : Type 0} (at count : ℕ) (version : Version) (ns : Namespace) (journal : JournalSet) (last : ℕ) (old s new : State) → HasBegun told at count version ns journal last old s → {T E : Type 0} {result : Result T E} → Spoke told (started_line last) s new result → SaysLittle told at old new
-little_front at count version ns journal last old s new begun spoke t begins =
-    let same = (begun.opens t begins.sound.opened begins.sound.opens begins.unsaved).1 in
+pub little_front : {told : Type 0} {at : ℕ} (count : ℕ) (version : Version) (ns : Namespace) (journal : JournalSet) (last : ℕ) (old s new : State) → HasBegun told at count version ns journal last old s → {T E : Type 0} {result : Result T E} → Spoke told (started_line last) s new result → SaysLittle told old new
+little_front {told} {at} count version ns journal last old s new begun spoke t opened opens none =
+    let same = (begun.opens t opened opens none).1 in
     let line = started_line last in
-    let long : length (text_of (opening_of (asked_at at) begins.sound.opens.version.ctime begins.sound.opened)) ≡ length line = ap length (append-nil (started_line begins.sound.opened.last) ∙ ap started_line same) in
-    throughout_trans (little_quiet at old s begun.quiet t begins)
+    let long : length (started_line opened.last) ≡ length line = ap length (ap started_line same) in
+    throughout_trans (little_quiet old s begun.quiet t opened opens none)
     (throughout_weaker (throughout_told (λ (u : Unit {0}). t) (said_front spoke)) (λ u m is.
     omega (arith, long, length-drop (length old.now.said) m.said, ap length is.1, length-append s.now.said (take is.0 line), ap length begun.quiet.now.said, length-take is.0 line)))
 
@@ -170,10 +175,10 @@ little_front at count version ns journal last old s new begun spoke t begins =
 pub filled_unsaid : {told : Type 0} (at files count : ℕ) (version : Version) (ns : Namespace) (journal : JournalSet) (last : ℕ) (old s : State) → HasBegun told at count version ns journal last old s → (new : State) (end : RunEnd) → SaysStarted told last s new (Err end) → CameFilled told at files old new end
 filled_unsaid {told} at files count version ns journal last old s begun new end (inl failed) =
     subst (λ (e : RunEnd). CameFilled told at files old new e) (sym failed.0)
-    (filled_early at files old new OutFault refl (out_unsaid at count version ns journal last old s begun (started_line last) refl new failed.1.0 failed.1.1) (little_front at count version ns journal last old s new begun failed.1.1))
+    (filled_early at files old new OutFault refl (out_unsaid at count version ns journal last old s begun (started_line last) refl new failed.1.0 failed.1.1) (little_front count version ns journal last old s new begun failed.1.1))
 filled_unsaid {told} at files count version ns journal last old s begun new end (inr none) =
     subst (λ (e : RunEnd). CameFilled told at files old new e) (sym none.0)
-    (subst (λ (z : State). CameFilled told at files old z Memory) (sym none.1) (filled_early at files old s Memory refl (out_begun at count version ns journal last old s begun) (little_quiet at old s begun.quiet)))
+    (subst (λ (z : State). CameFilled told at files old z Memory) (sym none.1) (filled_early at files old s Memory refl (out_begun at count version ns journal last old s begun) (little_quiet old s begun.quiet)))
 
 -- the same, under other names
 pub filling_as : {told : Type 0} {at files n m : ℕ} {version other : Version} {ns : Namespace} {time : ℕ} {journal : JournalSet} {done all : List Bytes} {tally : Tally} {old s : State} → n ≡ m → version ≡ other → done ≡ all

@@ -1,11 +1,11 @@
 -- A line of a run over generated files that was done, or that ended the run.
-use Rattle.std.proofs.Common.{◌≡◌, ℕ, ◌+◌, ◌*◌, ◌≤◌, Bool, true, false, if◌then◌else◌, List, [], ◌∷◌, ◌++◌, Ok, Err, Some, Option, Result, refl, sym, ◌∙◌, ap, subst, arith}
+use Rattle.std.proofs.Common.{◌≡◌, ℕ, ◌+◌, Bool, true, false, if◌then◌else◌, List, [], ◌∷◌, ◌++◌, Ok, Err, Some, Option, Result, sym, ◌∙◌, ap, arith}
 use Rattle.std.specs.Prelude.{is_none, not}
 use Rattle.std.proofs.lemmas.List.{append-nil}
-use Rattle.nn_base.specs.DirSets.{has, count_of}
+use Rattle.nn_base.specs.DirSets.{has}
 use Rattle.nn_base.specs.Paths.{Bytes}
 use Rattle.nn_host.specs.Moments.{State}
-use Rattle.nn_host.proofs.RunsLemmas.{out_whole_unspoken, throughout_told, throughout_weaker, unspoken_refl}
+use Rattle.nn_host.proofs.RunsLemmas.{out_whole_unspoken, throughout_told, throughout_weaker}
 use Rattle.nn_marks.specs.declared.version.Version.{Version}
 use Rattle.nn_tree.specs.Namespace.{Namespace}
 use Rattle.nn_ops.specs.declared.command.Command.{Command}
@@ -15,7 +15,6 @@ use Rattle.nn_script.specs.Lines.{lines_of}
 use Rattle.nn_script.specs.Reading.{reading_of}
 use Rattle.nn_generate.specs.Generated.{script_of}
 use Rattle.nn_journal.specs.declared.journal.JournalSet.{JournalSet}
-use Rattle.nn_run.specs.Running.{Asked}
 use Rattle.nn_run.specs.Course.{started_line}
 use Rattle.nn_whole.specs.Counted.{HasSeen}
 use Rattle.nn_whole.proofs.CountedLemmas.{next_is_counted}
@@ -35,7 +34,7 @@ use Rattle.nn_serve.proofs.SinceLemmas.{goes_on, step_counts, opening_on, starts
 use Rattle.nn_serve.proofs.TurnLemmas.{room_ids, room_after}
 use Rattle.nn_serve.proofs.LoopLemmas.{room_less}
 use Rattle.nn_serve.proofs.FillLemmas.{tallying_then, run_then, counted_then}
-use Rattle.nn_serve.proofs.FillOutLemmas.{out_lost, out_starved}
+use Rattle.nn_serve.proofs.FillOutLemmas.{little_then, out_lost, out_starved}
 
 -- it is none where it isn't some
 pub none_is : (none some : Bool) → some ≡ not none → none ≡ not some
@@ -66,6 +65,7 @@ module _ {told : Type 0} (at files count : ℕ) (version : Version) (ns : Namesp
           run_then at files count version ns time journal done tally old s filling change ns_after after new (Ok refusal) performed line reads later split t opened opens none refusal time_after same replied,
           counted_then at files count version ns time journal done tally old s filling change ns_after after new (Ok refusal) performed line reads later split t opened opens none refusal time_after same replied tally_after commands taken,
         );
+        little = little_then at files count version ns time journal done tally old s filling new performed.quiet;
         opening = λ t opened opens none.
             opening_on (NoneFailed old) opened.last old s new (started_line opened.last) (filling.said t opened opens none).0 (omega arith) (filling.opening t opened opens none)
             (throughout_weaker (throughout_told (λ (u : Unit {0}). t) performed.quiet.each) (λ u m out. ([], out.said ∙ sym (append-nil s.now.said))));

@@ -15,7 +15,7 @@ use Rattle.nn_script.specs.declared.syntax.Syntax.{Syntax}
 use Rattle.nn_script.specs.Lines.{has_no_answer}
 use Rattle.nn_script.specs.Reading.{reading_of}
 use Rattle.nn_journal.specs.declared.journal.JournalSet.{JournalSet}
-use Rattle.nn_run.specs.Running.{Running, Sight, Asked, Failed, reply_read, reply_at, after_asked, restored_dir, back_at, is_back}
+use Rattle.nn_run.specs.Running.{Running, Sight, Asked, Failed, reply_read, reply_at, after_asked, restored_dir}
 use Rattle.nn_run.specs.Course.{dirs_of, first_of, course_of, RunKept, answers_of}
 use Rattle.nn_run.proofs.LineLemmas.{read_some}
 use Rattle.nn_run.specs.Loop.{KeptSoFar}
@@ -31,7 +31,6 @@ use Rattle.nn_core.specs.Standing.{HasIds}
 use Rattle.nn_serve.specs.Ran.{asked_at, IsLeftAt, BeginsSoundly, NoneFailed}
 use Rattle.nn_serve.specs.Serving.{IsServing, HasRoom}
 use Rattle.nn_serve.specs.Turns.{TurnsTo}
-use Rattle.nn_serve.specs.Tried.{counts_by, IsTried, TriedTruly}
 use Rattle.nn_serve.proofs.TriedLemmas.{counts_next, tried_next, restore_is, came_tried}
 use Rattle.nn_serve.proofs.SinceLemmas.{goes_on, first_long, opening_on, starts_on}
 use Rattle.nn_serve.proofs.OutLemmas.{out_stepped}

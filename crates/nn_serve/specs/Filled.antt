@@ -1,13 +1,14 @@
 -- What a run over generated files did: what it said, kept and left, and which counts rose.
-use Rattle.std.specs.Prelude.{◌≡◌, ◌≢◌, ◌⊎◌, ℕ, ◌-◌, ◌^◌, ◌<◌, Bool, None, List, [], ◌++◌}
+use Rattle.std.specs.Prelude.{◌≡◌, ◌≢◌, ◌⊎◌, ℕ, ◌-◌, ◌^◌, ◌<◌, Bool, None, List, [], ◌++◌, length}
 use Rattle.nn_base.specs.Paths.{Bytes}
 use Rattle.nn_base.specs.declared.ids.DirNo.{DirNo}
 use Rattle.nn_host.specs.Moments.{Entry, State, faults_at}
-use Rattle.nn_host.specs.Runs.{Throughout}
+use Rattle.nn_host.specs.Runs.{Throughout, Undisturbed}
 use Rattle.nn_pick.specs.declared.intent.Intent.TheVariants.{Start}
 use Rattle.nn_pick.specs.declared.refusal.Refusal.{Refusal}
 use Rattle.nn_pick.specs.Refusing.{Refuses}
 use Rattle.nn_pick.specs.Opening.{Opening, Opens}
+use Rattle.nn_run.specs.Window.{said_since}
 use Rattle.nn_run.specs.Course.{started_line, dirs_of, RunKept}
 use Rattle.nn_fill.specs.Filled.{generated}
 use Rattle.nn_fill.specs.Tally.{tally_of, commands_by, tallied_course}
@@ -36,13 +37,16 @@ pub record RunFilled (told : Type 0) (at files : ℕ) (old new : State) (text : 
   pub opening : told → text ≢ [] → (opened : Opening) → Opens (dirs_of old) Start opened → opened.book.saved ≡ None → Throughout (Unit {0}) old new (AsItStarts opened.last old (NoneFailed old))
   -- and how each directory stood then
   pub started : told → text ≢ [] → (begins : BeginsSoundly old) → StartsAll old new begins.sound.opened.last begins.sound.opened.book.ns
-  -- at every moment every choice with a directory of the run opens into its window: to a Book after some of the lines, and to that after all of them once it was said how many commands there were
+  -- once a byte of how many commands there were was said, each directory is as it stays: the last segment was ended before that
+  pub closed : told → (opened : Opening) → Opens (dirs_of old) Start opened → opened.book.saved ≡ None → Throughout (Unit {0}) old new (λ m. length (started_line opened.last) < length (said_since old m) → Undisturbed new m)
+  -- at every moment every choice with a directory of the run opens into its window: to a Book after some first ones of the lines, and to that after all of them once it was said how many commands there were
   pub kept : told → (begins : BeginsSoundly old) (ahead : ℕ → Bool) → RunKept (Unit {0}) (tallied_course (asked_at at) old.count begins.sound.opens.version.ctime begins.sound.opened (generated files) ahead) old new
   -- and what done work leaves
   pub ended : told → end ≡ Ended → (begins : BeginsSoundly old) → LeavesLast (asked_at at) begins.sound.opened (generated files) old new
   -- refused exactly by the first refusal of the table, and then nothing that reads is changed
   pub refused : told → (refusal : Refusal) → (end ≡ Refused refusal → Refuses (dirs_of old) Start refusal × ((i : ℕ) → new.reads i ≡ old.reads i)) × (Refuses (dirs_of old) Start refusal → EndsUnopened refusal end × (text ≡ []))
-  -- for every host: which counts rose
+  -- for every host: no script is read, so none fails or is too long; and which counts rose
+  pub unread : (end ≢ SourceFault) × (end ≢ ScriptTooLong)
   pub cause : CausedBy old new [] end
   pub once : FailOnce old new [] end
   -- where the directories open and the output didn't fail, nothing else ends it while one directory has no failure, but want of memory or a failure before it started

@@ -1,5 +1,5 @@
 -- A run over generated files on its way: what holds between two of its lines, and what a line leads to.
-use Rattle.std.specs.Prelude.{◌≡◌, ℕ, ◌+◌, ◌<◌, true, None, List, [], ◌∷◌, ◌++◌, length, ◌⊎◌, Result, Ok, Err}
+use Rattle.std.specs.Prelude.{◌≡◌, ℕ, ◌+◌, ◌<◌, ◌≤◌, true, None, List, [], ◌++◌, length, ◌⊎◌, Result, Ok, Err}
 use Rattle.nn_base.specs.DirSets.{has}
 use Rattle.nn_base.specs.Paths.{Bytes}
 use Rattle.nn_host.specs.Moments.{State}
@@ -15,6 +15,7 @@ use Rattle.nn_pick.specs.Opening.{Opening, Opens}
 use Rattle.nn_script.specs.Lines.{lines_of}
 use Rattle.nn_journal.specs.declared.journal.JournalSet.{JournalSet}
 use Rattle.nn_run.specs.Running.{Asked, after_asked}
+use Rattle.nn_run.specs.Window.{said_since}
 use Rattle.nn_run.specs.Course.{started_line, dirs_of, first_of}
 use Rattle.nn_whole.specs.Counted.{HasSeen}
 use Rattle.nn_whole.specs.Leaving.{unreached}
@@ -33,6 +34,10 @@ use Rattle.nn_serve.specs.Ended.{run_end}
 use Rattle.nn_serve.specs.Ran.{asked_at, AsItStarts, NoneFailed, StartsAll, BeginsSoundly}
 use Rattle.nn_serve.specs.Serving.{HasRoom}
 use Rattle.nn_serve.specs.Filled.{CameFilled}
+
+-- From old to new directories that open with nothing saved were said no more of than that the run has started.
+abbrev pub SaysLittle : Type 0 → State → State → Type 0
+SaysLittle told old new = told → (opened : Opening) → Opens (dirs_of old) Start opened → opened.book.saved ≡ None → Throughout (Unit {0}) old new (λ m. length (said_since old m) ≤ length (started_line opened.last))
 
 -- these lines, at which nothing is seen
 abbrev pub unseen_at : List Bytes → List Asked
@@ -53,6 +58,7 @@ pub record IsFilling (told : Type 0) (at files count : ℕ) (version : Version) 
   pub grew : told → (text : Bytes) × (s.now.said ≡ old.now.said ++ text)
   pub said : told → (opened : Opening) → Opens (dirs_of old) Start opened → opened.book.saved ≡ None
       → (s.now.said ≡ old.now.said ++ started_line opened.last) × (running ns time ≡ after_asked old.count (first_of (asked_at at) opened) (unseen_at done)) × Tallies at old.count opened done tally
+  pub little : SaysLittle told old s
   pub opening : told → (opened : Opening) → Opens (dirs_of old) Start opened → opened.book.saved ≡ None → Throughout (Unit {0}) old s (AsItStarts opened.last old (NoneFailed old))
   pub started : told → (begins : BeginsSoundly old) → StartsAll old s begins.sound.opened.last begins.sound.opened.book.ns
   pub tallying : told → (begins : BeginsSoundly old) (ahead : _) → Tallying (asked_at at) begins.sound.opens.version.ctime begins.sound.opened ahead (has journal.live) (λ i. true) (generated files) old s

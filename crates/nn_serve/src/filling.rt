@@ -12,7 +12,7 @@ ghost use Rattle.nn_core.specs.Ready.{IsReady};
 ghost use Rattle.nn_fill.specs.Filled.{AreGood, IsChangeLine};
 ghost use Rattle.nn_fill.specs.Tally.{count_line};
 ghost use Rattle.nn_serve.specs.Filled.{CameFilled};
-ghost use Rattle.nn_serve.specs.Filling.{IsFilling, Fills, SaysTally};
+ghost use Rattle.nn_serve.specs.Filling.{IsFilling, Fills, SaysTally, SaysLittle};
 ghost use Rattle.nn_serve.specs.Serving.{IsServing, HasRoom};
 
 use crate::ending::{RunEnd, run_end};
@@ -40,7 +40,7 @@ pub(crate) fn fill<H: Host, T: Tree>(
     requires ready { IsReady core.old.journal core.old.count (H.state host.old) }
     requires ids { core.old.journal.last ≤ 2 ^ 62 }
     requires imaged { IsImaged (T.meaning core.old.tree) }
-    ensures { (at : ℕ) (origin : State) → IsServing H.told at core.old.count core.old.version (T.meaning core.old.tree) core.old.time core.old.journal [] origin (H.state host.old) → HasRoom H.told origin core.old.journal most_script →
+    ensures { (at : ℕ) (origin : State) → IsServing H.told at core.old.count core.old.version (T.meaning core.old.tree) core.old.time core.old.journal [] origin (H.state host.old) → HasRoom H.told origin core.old.journal most_script → SaysLittle H.told origin (H.state host.old) →
         CameFilled H.told at files origin (H.state host.new) result }
 {
     let mut tally = Tally::none();

@@ -3,8 +3,8 @@ use Rattle.std.proofs.Common.{◌≡◌, ◌≢◌, inl, inr, ℕ, ◌≤◌, �
 use Rattle.std.proofs.lemmas.List.{append-nil}
 use Rattle.nn_base.specs.Paths.{Bytes}
 use Rattle.nn_host.specs.Moments.{Moment, State, IsLawful, faults_at}
-use Rattle.nn_host.specs.Runs.{Throughout}
-use Rattle.nn_host.proofs.RunsLemmas.{throughout_told, throughout_weaker}
+use Rattle.nn_host.specs.Runs.{Throughout, Undisturbed}
+use Rattle.nn_host.proofs.RunsLemmas.{throughout_told, throughout_trans, throughout_weaker}
 use Rattle.nn_pick.specs.Opening.{Opening}
 use Rattle.nn_say.specs.Saying.{SaysFronts}
 use Rattle.nn_run.specs.Window.{text_of}
@@ -94,6 +94,10 @@ module _ {told : Type 0} {at files : ℕ} {a b c : State} {text : Bytes} {result
   abbrev same_faults : (j : ℕ) → faults_at c j ≡ faults_at b j
   same_faults = closing.dirs.faults
 
+  -- closing changes no disk
+  undisturbed_on : told → {m : Moment} → Undisturbed b m → Undisturbed c m
+  undisturbed_on tells same = record { disks = λ j. same.disks j ∙ sym ((closing.dirs.kept.ends tells).disks j) }
+
   pub fill_on : RunFilled told at files a c text end
   fill_on = record {
     said = ran.said;
@@ -108,6 +112,9 @@ module _ {told : Type 0} {at files : ℕ} {a b c : State} {text : Bytes} {result
           stands = all.stands;
           each = start_after at files opens.version.ctime opened a b c (λ m. (i : ℕ) → i < a.count → IsStarted all.version all.list opened.last (m.dirs i).disk) text end tells (speaks.said tells) (ran.said tells opened opens begins.unsaved) closing some all.each;
         };
+    closed = λ tells opened opens unsaved.
+        throughout_trans (throughout_weaker (ran.closed tells opened opens unsaved) (λ u m is long. undisturbed_on tells (is long)))
+        (throughout_weaker (throughout_told (λ (u : Unit {0}). tells) closing.dirs.kept) (λ u m same long. undisturbed_on tells same));
     kept = λ tells begins ahead.
         let opened = begins.sound.opened in
         let opens = begins.sound.opens in
@@ -116,6 +123,7 @@ module _ {told : Type 0} {at files : ℕ} {a b c : State} {text : Bytes} {result
     refused = λ tells refusal.
         let refused = ran.refused tells refusal in
         (λ is. let by = refused.0 is in (by.0, λ i. closing.dirs.reads tells i ∙ by.1 i), refused.1);
+    unread = ran.unread;
     cause = caused_on a b c [] end same_faults ran.cause;
     once = once_on a b c [] end same_faults ran.once;
     complete = λ tells opened opens unsaid quiet i below counted kept. ran.complete tells opened opens unsaid (out_before (run_status end) speaks closing quiet) i below counted (sym (same_faults i) ∙ kept);

@@ -1,4 +1,4 @@
-use Rattle.std.proofs.Common.{◌≡◌, ◌+◌, ◌*◌, ◌<◌, ◌≤◌, ◌^◌, length}
+use Rattle.std.proofs.Common.{◌≡◌, ◌+◌, ◌*◌, ◌≤◌, length}
 use Rattle.nn_base.specs.DirSets.{count_of}
 use Rattle.nn_tree.specs.Imaged.{IsImaged}
 use Rattle.nn_script.specs.Lines.{lines_of}

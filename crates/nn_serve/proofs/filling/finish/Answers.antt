@@ -1,4 +1,4 @@
-use Rattle.std.proofs.Common.{⊎_elim, refl, sym, ◌∙◌, subst}
+use Rattle.std.proofs.Common.{refl}
 use Rattle.nn_serve.proofs.TurnLemmas.{room_ids}
 use Rattle.nn_serve.proofs.FillEndLemmas.{closed_lost, closed_told, closed_by}
 use Rattle.nn_fill.specs.Tally.{count_line}
