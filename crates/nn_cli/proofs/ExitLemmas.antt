@@ -57,6 +57,7 @@ counts_alone left faults before after old new (Run at None dirs) status did = re
       once = ran.once;
       live = ran.live;
       tried = ran.tried;
+      fit = λ never. absurd never;
       complete = λ never. absurd never;
     };
     closes = did.ended.closes;

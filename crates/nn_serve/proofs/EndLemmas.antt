@@ -31,7 +31,7 @@ use Rattle.nn_serve.specs.declared.ending.RunEnd.TheVariants.{Ended, NoneLeft}
 use Rattle.nn_serve.specs.Ended.{run_status}
 use Rattle.nn_serve.specs.Ran.{asked_at, BeginsSoundly, LeavesLast, AsItStarts, NoneFailed, StartsAll, SomeLeft, CausedBy}
 use Rattle.nn_serve.specs.Serving.{IsServing, EndsSo}
-use Rattle.nn_serve.specs.Tried.{TriedTruly}
+use Rattle.nn_serve.specs.Tried.{TriedTruly, NoneUnfit}
 use Rattle.nn_serve.proofs.SinceLemmas.{said_of, speaks_whole, goes_on, never_refused, all_of, step_counts, none_live, said_here, answers_here, kept_here, first_long, opening_on, starts_on, counted_once}
 
 module _ {told : Type 0} (at count : ℕ) (version : Version) (ns : Namespace) (time : ℕ) (journal : JournalSet) (seen : List Asked) (old s : State) (serving : IsServing told at count version ns time journal seen old s) where
@@ -147,6 +147,7 @@ module _ {told : Type 0} (at count : ℕ) (version : Version) (ns : Namespace) (
       cause = subst (λ l. CausedBy old new l Ended) (sym (all_of seen)) (let some = ended.some in let same = live_same ended some.0 some.1 in (some.0, same.0, same.1));
       once = counted_once (has after.live) seen old new Ended (ended_rise (Ok done) ended) (ended_sees (Ok done) ended).few;
       tried = subst (TriedTruly old.count (λ i. faults_at old i)) (sym (all_of seen)) serving.tried;
+      fit = λ t begins. subst (NoneUnfit old.count) (sym (all_of seen)) (serving.fit t begins);
       above = λ i. subst (λ l. faults_at old i ≤ base_since old l i) (sym (all_of seen)) (serving.sees.based i).0;
       live = (let sees = ended_sees (Ok done) ended in (subst (SeeLive old.count (λ i. faults_at old i)) (sym (all_of seen)) sees.sees, subst (λ l. SeenWithin l old new) (sym (all_of seen)) sees.within));
     }
@@ -167,6 +168,7 @@ module _ {told : Type 0} (at count : ℕ) (version : Version) (ns : Namespace) (
       cause = subst (λ l. CausedBy old new l NoneLeft) (sym (all_of seen)) (none_live after seen old new (ended_sees (Err e) ended).gone (λ j. (ended.failed j).0));
       once = counted_once (has after.live) seen old new NoneLeft (ended_rise (Err e) ended) (ended_sees (Err e) ended).few;
       tried = subst (TriedTruly old.count (λ i. faults_at old i)) (sym (all_of seen)) serving.tried;
+      fit = λ t begins. subst (NoneUnfit old.count) (sym (all_of seen)) (serving.fit t begins);
       above = λ i. subst (λ l. faults_at old i ≤ base_since old l i) (sym (all_of seen)) (serving.sees.based i).0;
       live = (let sees = ended_sees (Err e) ended in (subst (SeeLive old.count (λ i. faults_at old i)) (sym (all_of seen)) sees.sees, subst (λ l. SeenWithin l old new) (sym (all_of seen)) sees.within));
     }

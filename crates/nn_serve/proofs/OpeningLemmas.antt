@@ -45,7 +45,7 @@ use Rattle.nn_serve.specs.declared.ending.RunEnd.TheVariants.{Ended, Refused, Ho
 use Rattle.nn_serve.specs.Ended.{run_status, unstarted}
 use Rattle.nn_serve.specs.Ran.{asked_at, RunSays, BeginsSoundly, CausedBy, EndsUnopened, AsItStarts, NoneFailed, StartsAll, IsLeftAt, FailOnce}
 use Rattle.nn_serve.specs.Serving.{HasBegun, IsServing, EndsSo}
-use Rattle.nn_serve.proofs.TriedLemmas.{none_tried}
+use Rattle.nn_serve.proofs.TriedLemmas.{none_tried, none_unfit}
 use Rattle.nn_serve.proofs.SinceLemmas.{said_of, since_is, since_all, speaks_whole, never_refused}
 use Rattle.nn_serve.proofs.StartLemmas.{quiet_too, start_kept}
 
@@ -95,6 +95,7 @@ unstarted_so at old s end whole goes quiet kept says refused cause once = record
   once = once;
   live = (none_live old, none_within old s);
   tried = none_tried old.count (λ i. faults_at old i);
+  fit = λ t begins. none_unfit old.count;
   above = λ i. omega arith;
 }
 
@@ -190,6 +191,7 @@ module _ {told : Type 0} (at count : ℕ) (version : Version) (ns : Namespace) (
     sees = first_is_seen (has journal.live) old new all_live (record { faults = same_now spoke });
     counts = λ i. sym (same_now spoke i);
     tried = none_tried old.count (λ i. faults_at old i);
+    fit = λ t begins. none_unfit old.count;
     some = λ there. (0, all_live 0 there);
     left = λ there. none_left old.count;
     opening = λ t opened opens none. opening_at spoke t opened;
@@ -237,5 +239,6 @@ module _ {told : Type 0} (at count : ℕ) (version : Version) (ns : Namespace) (
         once = λ never i below. (omega (arith, same_now spoke i), omega (arith, same_now spoke i));
         live = (none_live old, none_within old new);
         tried = none_tried old.count (λ i. faults_at old i);
+        fit = λ t begins. none_unfit old.count;
         above = λ i. omega arith;
       }

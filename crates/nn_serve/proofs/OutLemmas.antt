@@ -37,7 +37,7 @@ use Rattle.nn_serve.specs.declared.ending.RunEnd.TheVariants.{Ended, Refused, No
 use Rattle.nn_serve.specs.Ended.{run_status, run_end}
 use Rattle.nn_serve.specs.Ran.{asked_at, RunSays, BeginsSoundly, CausedBy, SomeLeft, NoneFailed}
 use Rattle.nn_serve.specs.Serving.{IsServing, EndsSo}
-use Rattle.nn_serve.specs.Tried.{TriedTruly}
+use Rattle.nn_serve.specs.Tried.{TriedTruly, NoneUnfit}
 use Rattle.nn_serve.proofs.SinceLemmas.{said_of, since_is, since_all, speaks_whole, goes_on, never_refused, all_of, none_live, risen_here, said_here, answers_here, kept_here, first_long, opening_on, starts_on, counted_once}
 
 module _ {told : Type 0} (at count : ℕ) (version : Version) (ns : Namespace) (time : ℕ) (journal : JournalSet) (seen : List Asked) (old s : State) (serving : IsServing told at count version ns time journal seen old s) where
@@ -74,6 +74,7 @@ module _ {told : Type 0} (at count : ℕ) (version : Version) (ns : Namespace) (
     cause = subst (λ l. CausedBy old s l end) (sym (all_of seen)) cause;
     once = counted_once (has journal.live) seen old s end (risen_here at count version ns time journal seen old s serving) serving.sees.few;
     tried = subst (TriedTruly old.count (λ i. faults_at old i)) (sym (all_of seen)) serving.tried;
+    fit = λ t begins. subst (NoneUnfit old.count) (sym (all_of seen)) (serving.fit t begins);
     above = λ i. subst (λ l. faults_at old i ≤ base_since old l i) (sym (all_of seen)) (serving.sees.based i).0;
     live = (subst (SeeLive old.count (λ i. faults_at old i)) (sym (all_of seen)) serving.sees.sees, subst (λ l. SeenWithin l old s) (sym (all_of seen)) serving.sees.within);
   }
@@ -124,6 +125,7 @@ module _ {told : Type 0} (at count : ℕ) (version : Version) (ns : Namespace) (
       cause = subst (λ l. CausedBy old new l end) (sym all_but_next) cause;
       once = counted_once live (seen ++ next ∷ []) old new end (λ i. omega (arith, risen_here at count version ns time journal seen old s serving i, rise i)) sees.few;
       tried = subst (TriedTruly old.count (λ i. faults_at old i)) (sym all_but_next) serving.tried;
+      fit = λ t begins. subst (NoneUnfit old.count) (sym all_but_next) (serving.fit t begins);
       above = λ i. subst (λ l. faults_at old i ≤ base_since old l i) (sym all_but_next) (serving.sees.based i).0;
       live = (subst (SeeLive old.count (λ i. faults_at old i)) (sym all_but_next) sees.sees, subst (λ l. SeenWithin l old new) (sym all_but_next) sees.within);
     }
@@ -179,6 +181,7 @@ module _ {told : Type 0} (at count : ℕ) (version : Version) (ns : Namespace) (
     once = counted_once (has journal.live) (seen ++ seen_at line Failed journal.live s ∷ []) old s Memory (risen_here at count version ns time journal seen old s serving)
         (out_is_counted (has journal.live) (has journal.live) seen (seen_at line Failed journal.live s) old s s serving.sees (λ i. inl (refl, refl))).few;
     tried = subst (TriedTruly old.count (λ i. faults_at old i)) (sym (all_but_next (seen_at line Failed journal.live s))) serving.tried;
+    fit = λ t begins. subst (NoneUnfit old.count) (sym (all_but_next (seen_at line Failed journal.live s))) (serving.fit t begins);
     above = λ i. subst (λ l. faults_at old i ≤ base_since old l i) (sym (all_but_next (seen_at line Failed journal.live s))) (serving.sees.based i).0;
     live = (
       subst (SeeLive old.count (λ i. faults_at old i)) (sym (all_but_next (seen_at line Failed journal.live s))) serving.sees.sees,

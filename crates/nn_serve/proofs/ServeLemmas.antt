@@ -71,6 +71,7 @@ came_to at script left before after old new seen end so read = record {
     once = so.once;
     live = so.live;
     tried = so.tried;
+    fit = so.fit;
     complete = λ host source opened opens short source_room source_same out_room out_same i below room same.
         completes at script left before after old new seen host source opened opens short source_room source_same out_room out_same i below room same end so read;
   };

@@ -1,10 +1,10 @@
 -- One line of a run, and then the next.
 use Rattle.std.proofs.lemmas.List.Elements.{All-append, All-cons, All-nil}
-use Rattle.std.proofs.Common.{◌≡◌, inl, inr, ℕ, ◌+◌, ◌*◌, ◌≤◌, Bool, true, List, [], ◌∷◌, ◌++◌, take, Ok, Err, None, Some, Option, Result, refl, sym, ◌∙◌, ap, subst, arith, append_assoc, All}
+use Rattle.std.proofs.Common.{◌≡◌, ◌≢◌, inl, inr, ℕ, ◌+◌, ◌*◌, ◌≤◌, Bool, true, List, [], ◌∷◌, ◌++◌, take, Ok, Err, None, Some, Option, Result, refl, sym, ◌∙◌, ap, subst, arith, append_assoc, All}
 use Rattle.std.proofs.lemmas.Bool.{cases_Bool}
 use Rattle.nn_base.specs.DirSets.{has, count_of}
 use Rattle.nn_base.specs.Paths.{Bytes}
-use Rattle.nn_host.specs.Moments.{State, faults_at}
+use Rattle.nn_host.specs.Moments.{State, IsLawful, faults_at}
 use Rattle.nn_host.proofs.RunsLemmas.{throughout_told, throughout_weaker}
 use Rattle.nn_marks.specs.declared.version.Version.{Version}
 use Rattle.nn_tree.specs.Namespace.{Namespace}
@@ -26,12 +26,15 @@ use Rattle.nn_whole.specs.Served.{HasSaid, SaysLast}
 use Rattle.nn_whole.proofs.CountedLemmas.{next_is_seen, step_rises, step_narrows}
 use Rattle.nn_whole.proofs.ServedLemmas.{next_is_said, silent_is_said}
 use Rattle.nn_core.specs.declared.event.End.{End}
-use Rattle.nn_core.specs.Events.{asked_at as seen_at, running, HasStepped}
+use Rattle.nn_core.specs.declared.event.Event.{Event}
+use Rattle.nn_core.specs.declared.event.Event.TheVariants.{Line, Bad}
+use Rattle.nn_core.specs.Events.{asked_at as seen_at, read_as, running, HasStepped}
 use Rattle.nn_core.specs.Standing.{HasIds}
+use Rattle.nn_core.proofs.LineLemmas.{has_answer}
 use Rattle.nn_serve.specs.Ran.{asked_at, IsLeftAt, BeginsSoundly, NoneFailed}
 use Rattle.nn_serve.specs.Serving.{IsServing, HasRoom}
 use Rattle.nn_serve.specs.Turns.{TurnsTo}
-use Rattle.nn_serve.proofs.TriedLemmas.{counts_next, tried_next, restore_is, came_tried}
+use Rattle.nn_serve.proofs.TriedLemmas.{counts_next, counts_silent, tried_next, fit_next, restore_is, came_tried, stands_fit, came_fit}
 use Rattle.nn_serve.proofs.SinceLemmas.{goes_on, first_long, opening_on, starts_on}
 use Rattle.nn_serve.proofs.OutLemmas.{out_stepped}
 
@@ -96,15 +99,18 @@ module _ {told : Type 0} (at count : ℕ) (version : Version) (ns ns_after : Nam
       (serving.kept tells begins ahead (line ∷ rest))
       (renamed tells opened opens begins.unsaved (λ k run. StepKept (Unit {0}) k run (has journal.live) (λ i. true) next s new) (stepped.kept tells (ids tells begins) (serving.stands tells begins) line reads))
 
-  pub turned : (more : ℕ) → HasRoom told old journal (more + 1) → IsServing told at count version ns_after time_after after (seen ++ next ∷ []) old new × HasRoom told old after more
-  turned more room = (
+  pub turned : (told → IsLawful s) → reading ≢ Ok None → (more : ℕ) → HasRoom told old journal (more + 1) → IsServing told at count version ns_after time_after after (seen ++ next ∷ []) old new × HasRoom told old after more
+  turned lawful some more room = (
     record {
       listed = serving.listed;
       ready = stepped.ready;
       sees = next_is_seen (has journal.live) (has after.live) seen next old s new serving.sees counts (λ i. refl) (λ i. refl)
           (subst (λ k. SeesRestored k (has after.live) next) (sym serving.listed) (stepped.answered line reads).sees_restored);
-      counts = counts_next (λ i. faults_at old i) seen next;
+      counts = λ i. counts_next (λ j. faults_at old j) seen next i (has_answer reading some line reads);
       tried = tried_next old.count (λ i. faults_at old i) seen next serving.tried (λ i below is. came_tried line (serving.counts i)
+          (stepped.came i (sym reads ∙ restore_is (reading_of line) i is) (omega (arith, below, serving.listed))));
+      fit = λ tells begins. fit_next old.count seen next (serving.fit tells begins) (λ i below is.
+          came_fit tells (stands_fit (serving.stands tells begins) (lawful tells) i (omega (arith, below, serving.listed, serving.ready.listed)))
           (stepped.came i (sym reads ∙ restore_is (reading_of line) i is) (omega (arith, below, serving.listed))));
       some = λ there. stepped.live.some (inl (serving.some there));
       left = λ there. one_more old.count seen next (serving.left there)
@@ -147,8 +153,9 @@ silent at count version ns time journal seen old s serving line reads more room 
     listed = serving.listed;
     ready = serving.ready;
     sees = next_is_seen (has journal.live) (has journal.live) seen (seen_at line Failed journal.live s) old s s serving.sees (λ i. inl (refl, refl)) (λ i. refl) (λ i. refl) (λ i below e. absurd (none_asked i e));
-    counts = counts_next (λ i. faults_at old i) seen (seen_at line Failed journal.live s);
+    counts = λ i. counts_silent (λ j. faults_at old j) seen (seen_at line Failed journal.live s) i (silent_line count (running ns time) (seen_at line Failed journal.live s).sight line reads) ∙ serving.counts i;
     tried = tried_next old.count (λ i. faults_at old i) seen (seen_at line Failed journal.live s) serving.tried (λ i below e. absurd (none_asked i e));
+    fit = λ tells begins. fit_next old.count seen (seen_at line Failed journal.live s) (serving.fit tells begins) (λ i below e. absurd (none_asked i e));
     some = serving.some;
     left = λ there. one_more old.count seen (seen_at line Failed journal.live s) (serving.left there)
         (let live = serving.some there in (live.0, (let below = serving.ready.below live.0 live.1 in omega (arith, below, serving.listed)), live.1));
@@ -174,11 +181,16 @@ silent at count version ns time journal seen old s serving line reads more room 
 
 -- ---- whatever an event came to
 
+-- an event is no line without an answer
+pub event_some : (event : Event) → read_as event ≢ Ok None
+event_some (Line command) e = cc e
+event_some (Bad fault) e = cc e
+
 pub turned_to : {told : Type 0} (at count : ℕ) (version : Version) (ns ns_after : Namespace) (time time_after : ℕ) (journal after : JournalSet) (seen : List Asked) (old s new : State) → IsServing told at count version ns time journal seen old s
-    → (reading : Result (Option ScriptCommand) Syntax) (line : Bytes) → reading_of line ≡ reading → (result : Result (Unit {0}) End) → HasStepped told reading count version ns ns_after time time_after journal after s new result
+    → (told → IsLawful s) → (reading : Result (Option ScriptCommand) Syntax) (line : Bytes) → reading_of line ≡ reading → reading ≢ Ok None → (result : Result (Unit {0}) End) → HasStepped told reading count version ns ns_after time time_after journal after s new result
     → (more : ℕ) → HasRoom told old journal (more + 1) → TurnsTo told at count version ns_after time_after after seen line more old new result
-turned_to at count version ns ns_after time time_after journal after seen old s new serving reading line reads (Ok v) stepped more room =
-    let it = turned at count version ns ns_after time time_after journal after seen old s new serving reading line reads v stepped more room in
+turned_to at count version ns ns_after time time_after journal after seen old s new serving lawful reading line reads some (Ok v) stepped more room =
+    let it = turned at count version ns ns_after time time_after journal after seen old s new serving reading line reads v stepped lawful some more room in
     (seen_at line stepped.restored after.live new, refl, it.0, it.1)
-turned_to at count version ns ns_after time time_after journal after seen old s new serving reading line reads (Err end) stepped more room =
+turned_to at count version ns ns_after time time_after journal after seen old s new serving lawful reading line reads some (Err end) stepped more room =
     (seen_at line stepped.restored after.live new, refl, out_stepped at count version ns time journal seen old s serving reading ns_after time_after after new (room_ids room) line reads end stepped)

@@ -26,7 +26,7 @@ use Rattle.nn_whole.specs.Served.{SeenTruly}
 use Rattle.nn_serve.specs.declared.ending.RunEnd.{RunEnd}
 use Rattle.nn_serve.specs.declared.ending.RunEnd.TheVariants.{Ended, Refused, HostFault, NoneLeft, SourceFault, ScriptTooLong, Memory, OutFault}
 use Rattle.nn_serve.specs.Ended.{run_reached}
-use Rattle.nn_serve.specs.Tried.{TriedTruly}
+use Rattle.nn_serve.specs.Tried.{TriedTruly, NoneUnfit}
 
 -- a run without an upgrade that begins at this time: each command is synced by itself
 abbrev pub asked_at : ℕ → RunAsked
@@ -136,6 +136,8 @@ pub record RunRan (told_host told_source : Type 0) (at : ℕ) (script left : Byt
   -- as far as the counts that were seen tell, that live are just those whose count hasn't risen since the run began or since it was last taken back; and what came of the lines that were to take one back
   pub live : SeeLive old.count (λ i. faults_at old i) (take reached seen) × SeenWithin (take reached seen) old new
   pub tried : TriedTruly old.count (λ i. faults_at old i) (take reached seen)
+  -- over sound directories each listed one has a state at every moment: so none that is to be taken back is said to be missing or inconsistent
+  pub fit : told_host → BeginsSoundly old → NoneUnfit old.count (take reached seen)
   -- and that no line is answered once none is left
   pub some : SomeLeft old.count (take reached seen)
   -- where the directories open, the script is short enough and neither the source nor the output failed, nothing else ends it while one directory has no failure, but want of memory or a failure before it started

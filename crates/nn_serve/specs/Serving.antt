@@ -25,7 +25,7 @@ use Rattle.nn_server.specs.Came.{Speaks}
 use Rattle.nn_serve.specs.declared.ending.RunEnd.{RunEnd}
 use Rattle.nn_serve.specs.declared.ending.RunEnd.TheVariants.{Ended, Refused}
 use Rattle.nn_serve.specs.Ended.{run_status}
-use Rattle.nn_serve.specs.Tried.{counts_by, TriedTruly}
+use Rattle.nn_serve.specs.Tried.{counts_by, TriedTruly, NoneUnfit}
 use Rattle.nn_serve.specs.Ran.{asked_at, RunSays, AsItStarts, NoneFailed, StartsAll, SomeLeft, BeginsSoundly, LeavesLast, CausedBy, FailOnce, EndsUnopened}
 
 -- ---- on its way
@@ -52,6 +52,7 @@ pub record IsServing (told : Type 0) (at count : ℕ) (version : Version) (ns : 
   pub sees : HasSeen (has journal.live) seen old s
   pub counts : (i : ℕ) → counts_by (λ j. faults_at old j) seen i ≡ faults_at s i
   pub tried : TriedTruly old.count (λ i. faults_at old i) seen
+  pub fit : told → BeginsSoundly old → NoneUnfit old.count seen
   pub some : 0 < old.count → HasLive journal
   pub left : SomeLeft old.count seen
   pub out : GoesOut told old s
@@ -89,4 +90,5 @@ pub record EndsSo (told : Type 0) (at : ℕ) (old new : State) (seen : List Aske
   pub once : FailOnce old new seen end
   pub live : SeeLive old.count (λ i. faults_at old i) (take reached seen) × SeenWithin (take reached seen) old new
   pub tried : TriedTruly old.count (λ i. faults_at old i) (take reached seen)
+  pub fit : told → BeginsSoundly old → NoneUnfit old.count (take reached seen)
   pub above : (i : ℕ) → faults_at old i ≤ base_since old (take reached seen) i

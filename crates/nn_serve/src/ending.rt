@@ -22,8 +22,9 @@ pub enum RunEnd {
     SourceFault,
     /// The script has more than 2^26 bytes. The lines that end within them were answered.
     ScriptTooLong,
-    /// Memory ran out: before the run had started; over a command of which nothing was written yet; or over a checkpoint or a
-    /// directory that was to be taken back, which was not answered. `Core::step` tells which.
+    /// Memory ran out: before the run had started; over a command of which nothing was written yet; over a checkpoint or a
+    /// directory that was to be taken back, which was not answered (`Core::step` tells which); or over the count of generated
+    /// lines, when all of them are done.
     Memory,
     /// The output failed: nothing more was said.
     OutFault,

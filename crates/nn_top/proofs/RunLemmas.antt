@@ -181,6 +181,7 @@ module _ {told told_source : Type 0} {at : ℕ} {script left : Bytes} {before af
     cause = caused_on a b c (take ran.reached ran.seen) end same_faults ran.cause;
     once = once_on a b c ran.seen end same_faults ran.once;
     tried = ran.tried;
+    fit = ran.fit;
     live = (ran.live.0, within_on a b c (take ran.reached ran.seen) same_faults ran.live.1);
     complete = λ tells tells' opened opens short early unread fresh unsaid i below counted kept.
         ran.complete tells tells' opened opens short early unread fresh (out_before (run_status end) speaks closing unsaid) i below counted (sym (same_faults i) ∙ kept);

@@ -34,7 +34,7 @@ pub record RunDid (told told_source : Type 0) (at : ℕ) (script left : Bytes) (
 
 -- ---- over generated files
 
--- The same of a run whose lines are generated: the choice opens to the Book after some of the lines while it wasn't said how many
+-- The same of a run whose lines are generated: the choice opens to the Book after some first ones of the lines while it wasn't said how many
 -- commands there were, and to that after all of them from then on.
 abbrev pub FillsSafely : (at files : ℕ) → (old new : State) → BeginsSoundly old → Type 0
 FillsSafely at files old new begins =

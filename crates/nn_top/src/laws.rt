@@ -42,7 +42,7 @@ pub fn other_words_have_no_reading()
         is_among (options_of command) word ≡ false → joined_in (options_of command) word ≡ Stray → HaveNoReading (command ∷ (front ++ word ∷ rest)) }
 {}
 
-/// The options of `format` and of `run` stand before the directories and behind them: with each option once, or with `--at` of
+/// The options of `format` and of `run` stand before the directories and behind them: with each option once, or with one of
 /// `run` not at all, such a line has its reading, and else none. Behind a `--` that stands first, directories may begin with `-`.
 /// No other line of theirs has a reading.
 pub fn options_stand_around_directories()
