@@ -107,20 +107,17 @@ fn one_that_is_live_is_left_alone(rt: HostRuntime) -> Result<(), Fail> {
 // The answer for a second directory that has the VERSION of these folders too, and whether all is as it was. Without a root, for none.
 fn refused(alloc: Global, folders: &[Sub]) -> Option<(Result<Restored, RunFault>, bool)> {
     let mut host = made(alloc, 2, &[], Vec::new(alloc))?;
-    if host.count() <= B.0 {
-        return None;
-    }
     for sub in folders {
         give(&mut host, B, *sub, FileName::Version, VERSION).ok()?;
     }
-    if folders.is_empty() {
+    if folders.is_empty() && B.0 < host.count() {
         host.without_root(B);
     }
     let mut run = Run::of(alloc, host)?;
     let gone = run.drops(B);
     let calls = run.calls();
     let answer = run.restores(alloc, B)?;
-    let looked = run.calls() - calls;
+    let looked = run.calls().saturating_sub(calls);
     Some((answer, gone && looked == 7))
 }
 
