@@ -99,6 +99,54 @@ impl<R: Files + Print + Eprint + Drop> FileHost<R> {
         raise(&mut self.faults, i.0);
         Err(Failed)
     }
+
+    // This and the two below stand apart, so that a record behind an open segment doesn't pay for them: a function pays at its
+    // entry for all its locals.
+    #[cold]
+    #[inline(never)]
+    fn refused_file(
+        &mut self,
+        i: DirNo,
+        verb: Verb,
+        sub: Sub,
+        name: FileName,
+        error: &io::Error,
+    ) -> Result<(), Failed>
+        requires { i.0 < length self.old.roots.items }
+        ensures call { Called ⊥ i.0 Look (untold_state (length self.old.roots.items) self.old.faults self.old.out_faults) (untold_state (length self.new.roots.items) self.new.faults self.new.out_faults) result }
+    {
+        self.refused(i, Doing::file(verb, sub, &name), error)
+    }
+
+    // Appends to a file that isn't open.
+    #[cold]
+    #[inline(never)]
+    fn append_closed(
+        &mut self,
+        i: DirNo,
+        sub: Sub,
+        name: FileName,
+        bytes: &[u8],
+    ) -> Result<(), Failed>
+        requires { i.0 < length self.old.roots.items }
+        ensures call { Called ⊥ i.0 Look (untold_state (length self.old.roots.items) self.old.faults self.old.out_faults) (untold_state (length self.new.roots.items) self.new.faults self.new.out_faults) result }
+    {
+        let at = i.0 as usize;
+        let place = Place::new(&self.rt, self.alloc, self.roots[at].as_str());
+        let done = segment::append_closed(&place, &mut self.segments[at], sub, name, bytes);
+        self.counted(i, Doing::file(Verb::WriteTo, sub, &name), done)
+    }
+
+    // Syncs a file that isn't open.
+    #[cold]
+    #[inline(never)]
+    fn sync_closed(&mut self, i: DirNo, sub: Sub, name: FileName) -> Result<(), Failed>
+        requires { i.0 < length self.old.roots.items }
+        ensures call { Called ⊥ i.0 Look (untold_state (length self.old.roots.items) self.old.faults self.old.out_faults) (untold_state (length self.new.roots.items) self.new.faults self.new.out_faults) result }
+    {
+        let done = segment::sync_closed(&self.place(i), sub, name);
+        self.counted(i, Doing::file(Verb::Sync, sub, &name), done)
+    }
 }
 
 fn raise(counts: &mut [u64; 8], i: u8)
@@ -183,20 +231,27 @@ impl<R: Files + Print + Eprint + Drop> Host for FileHost<R> {
     }
 
     fn append(&mut self, i: DirNo, sub: Sub, name: FileName, bytes: &[u8]) -> Result<(), Failed> {
-        let at = i.0 as usize;
-        let place = Place::new(&self.rt, self.alloc, self.roots[at].as_str());
-        match segment::append(&place, &mut self.segments[at], sub, name, bytes) {
-            Ok(()) => Ok(()),
-            Err(error) => self.refused(i, Doing::file(Verb::WriteTo, sub, &name), &error),
+        if let Some(open) = &mut self.segments[i.0 as usize]
+            && open.is(sub, &name)
+        {
+            return match open.append(bytes) {
+                Ok(()) => Ok(()),
+                Err(error) => self.refused_file(i, Verb::WriteTo, sub, name, &error),
+            };
         }
+        self.append_closed(i, sub, name, bytes)
     }
 
     fn sync(&mut self, i: DirNo, sub: Sub, name: FileName) -> Result<(), Failed> {
-        let segment = &self.segments[i.0 as usize];
-        match segment::sync(&self.place(i), segment, sub, name) {
-            Ok(()) => Ok(()),
-            Err(error) => self.refused(i, Doing::file(Verb::Sync, sub, &name), &error),
+        if let Some(open) = &self.segments[i.0 as usize]
+            && open.is(sub, &name)
+        {
+            return match open.sync() {
+                Ok(()) => Ok(()),
+                Err(error) => self.refused_file(i, Verb::Sync, sub, name, &error),
+            };
         }
+        self.sync_closed(i, sub, name)
     }
 
     fn rename_file(

@@ -1,22 +1,57 @@
 // Appending to files and syncing them. The segment in progress stays open from one append to the next.
 use crate::paths::Place;
-use nn_base::{FileName, Sub};
+use nn_base::{FileName, FirstTxid, Sub};
 use std::fs::{File, OpenFile, OpenOptions};
 use std::io;
-use std::io::Write;
+use std::io::{ErrorKind, Write};
 use std::rt::Files;
 
 /// An open segment in progress. It is closed before its file is renamed, removed or made anew.
 #[derive(Drop)]
 pub struct Segment<F> {
     sub: Sub,
-    name: FileName,
+    first: FirstTxid,
     file: F,
 }
 
 impl<F> Segment<F> {
-    fn is(&self, sub: Sub, name: &FileName) -> bool {
-        self.sub == sub && self.name == *name
+    /// Whether it is this file.
+    pub fn is(&self, sub: Sub, name: &FileName) -> bool {
+        match *name {
+            FileName::InProgress(first) => first == self.first && sub == self.sub,
+            _ => false,
+        }
+    }
+}
+
+impl<F: OpenFile + Write> Segment<F> {
+    /// Writes all the bytes at its end.
+    pub fn append(&mut self, bytes: &[u8]) -> io::Result<()> {
+        match self.file.write(bytes) {
+            // As a rule one call takes them all.
+            Ok(count) if count == bytes.len() => Ok(()),
+            part => append_rest(&mut self.file, bytes, part),
+        }
+    }
+
+    /// Syncs its bytes. `sync_data` syncs its length with them.
+    pub fn sync(&self) -> io::Result<()> {
+        self.file.sync_data()
+    }
+}
+
+// Goes on behind a call that took a part of the bytes, or that a signal interrupted.
+#[cold]
+#[inline(never)]
+fn append_rest<F: Write>(file: &mut F, bytes: &[u8], part: io::Result<usize>) -> io::Result<()> {
+    let taken = match part {
+        Ok(count) => count,
+        Err(error) if error.kind() == ErrorKind::Interrupted => 0,
+        Err(error) => return Err(error),
+    };
+    match bytes.get(taken..) {
+        Some(rest) => file.write_all(rest),
+        None => Ok(()),
     }
 }
 
@@ -40,19 +75,14 @@ pub fn close_sub<F: Drop>(segment: &mut Option<Segment<F>>, sub: Sub) {
     }
 }
 
-/// Writes all the bytes at the end of the file, and keeps it open if it is a segment in progress.
-pub fn append<R: Files>(
+/// Writes all the bytes at the end of a file that isn't open, and keeps it open if it is a segment in progress.
+pub fn append_closed<R: Files>(
     place: &Place<'_, R>,
     segment: &mut Option<Segment<R::File>>,
     sub: Sub,
     name: FileName,
     bytes: &[u8],
 ) -> io::Result<()> {
-    if let Some(open) = segment
-        && open.is(sub, &name)
-    {
-        return open.file.write_all(bytes);
-    }
     let path = place.file_path(sub, &name)?;
     if !place.is_file(path.as_str())? {
         return Ok(());
@@ -61,24 +91,14 @@ pub fn append<R: Files>(
         .append(true)
         .open(place.rt, path.as_str())?;
     file.write_all(bytes)?;
-    if let FileName::InProgress(_) = name {
-        *segment = Some(Segment { sub, name, file });
+    if let FileName::InProgress(first) = name {
+        *segment = Some(Segment { sub, first, file });
     }
     Ok(())
 }
 
-/// Syncs the bytes of the file. `sync_data` syncs its length with them.
-pub fn sync<R: Files>(
-    place: &Place<'_, R>,
-    segment: &Option<Segment<R::File>>,
-    sub: Sub,
-    name: FileName,
-) -> io::Result<()> {
-    if let Some(open) = segment
-        && open.is(sub, &name)
-    {
-        return open.file.sync_data();
-    }
+/// Syncs the bytes of a file that isn't open.
+pub fn sync_closed<R: Files>(place: &Place<'_, R>, sub: Sub, name: FileName) -> io::Result<()> {
     let path = place.file_path(sub, &name)?;
     if !place.is_file(path.as_str())? {
         return Ok(());
