@@ -59,7 +59,7 @@ mkfifo lines
 killed=$!
 exec 3> lines
 printf 'block /logs/today 134217728\nclose /logs/today\nmkdir /logs/old\n' >&3
-until [ "$(wc -l < said)" -ge 4 ]; do sleep 0.05; done
+until [ "$(wc -l < said)" -ge 4 ] || ! kill -0 "$killed" 2> /dev/null; do sleep 0.05; done
 kill -9 "$killed"
 wait "$killed" 2> /dev/null || echo "\$ namenode run a b   [killed, status $?]"
 exec 3>&-
