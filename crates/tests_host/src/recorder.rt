@@ -7,12 +7,13 @@ use std::io;
 use std::io::{ErrorKind, Read, Seek, SeekFrom, Write};
 use std::rt::Files;
 
-/// The calls so far, with paths from the root on, and how many more are done before one fails.
+/// The calls so far, with paths from the root on, how many more are done before one fails, and how many bytes a write takes.
 #[derive(Drop)]
 pub struct Record {
     root: String,
     calls: String,
     lasts: usize,
+    most: usize,
 }
 
 impl Record {
@@ -25,6 +26,7 @@ impl Record {
             root: String::from_str(alloc, root)?,
             calls: String::new(alloc),
             lasts: usize::MAX,
+            most: usize::MAX,
         })
     }
 
@@ -32,6 +34,11 @@ impl Record {
     pub fn begin(&mut self, lasts: usize) {
         self.calls.clear();
         self.lasts = lasts;
+    }
+
+    /// From here on a write takes at most so many bytes.
+    pub fn shorten(&mut self, most: usize) {
+        self.most = most;
     }
 
     fn add(&mut self, call: &str, path: &str, to: Option<&str>) -> io::Result<()> {
@@ -95,7 +102,11 @@ impl<'a, F: Read> Read for Recorded<'a, F> {
 impl<'a, F: Write> Write for Recorded<'a, F> {
     fn write(&mut self, bytes: &[u8]) -> io::Result<usize> {
         note(self.record, "write", self.path.as_str(), None)?;
-        self.file.write(bytes)
+        let most = match self.record.try_borrow() {
+            Ok(record) => record.most.min(bytes.len()),
+            Err(_) => return Err(ErrorKind::Other.into()),
+        };
+        self.file.write(&bytes[..most])
     }
 
     fn flush(&mut self) -> io::Result<()> {

@@ -1,7 +1,8 @@
 // Which changes and syncs each call on a real folder makes, in their order, by a runtime that writes them down.
-use crate::acting::{act, host_of, made_root};
+use crate::acting::{DIR, act, host_of, made_root, name_of};
 use crate::recorder::{Record, Recorder};
-use nn_host::Failed;
+use nn_base::Sub;
+use nn_host::{Failed, Host};
 use std::alloc::Global;
 use std::cell::RefCell;
 use std::process;
@@ -128,6 +129,39 @@ fn a_change_or_sync_that_fails_fails_the_call_and_is_its_last(rt: HostRuntime) -
             assert!(rt; wanted.starts_with(calls.as_str()), "{call}");
         }
     }
+    Ok(())
+}
+
+#[test]
+fn an_append_goes_on_behind_a_write_that_took_a_part(rt: HostRuntime) -> Result<(), Fail> {
+    let root = made_root(&rt, rt.alloc(), "parts", process::id(rt.process()))?;
+    let record = RefCell::new(Record::new(rt.alloc(), root.as_str())?);
+    let runtime = Recorder {
+        rt: &rt,
+        alloc: rt.alloc(),
+        record: &record,
+    };
+    let mut host = host_of(runtime, rt.alloc(), root.as_str())?;
+    for call in [
+        "make current",
+        "file current INPROGRESS",
+        "append current INPROGRESS one",
+    ] {
+        act(&rt, &mut host, call)?;
+    }
+    if let Ok(mut record) = record.try_borrow_mut() {
+        record.begin(usize::MAX);
+        record.shorten(2);
+    }
+    act(&rt, &mut host, "append current INPROGRESS three")?;
+    assert!(rt; 0 < host.count());
+    let mut held = [0; 16];
+    let count = host.read_at(DIR, Sub::Current, name_of("INPROGRESS"), 0, &mut held)?;
+    assert_eq!(rt; held.get(..count), Some(b"onethree".as_slice()));
+    if let Ok(record) = record.try_borrow() {
+        assert_eq!(rt; record.calls().split(", ").count(), 3);
+    }
+    rt.remove_dir_all(rt.alloc(), root.as_str())?;
     Ok(())
 }
 
