@@ -370,11 +370,15 @@ def serving(directory_path):
     there = lambda name: os.path.exists(os.path.join(directory_path, name))
     current, previous = there("current/VERSION"), there("previous")
     temporary = [name for name in TEMPORARY if there(name)]
-    if len(temporary) > 1 or (previous and "finalized.tmp" in temporary) or (previous and "previous.tmp" in temporary):
-        raise Unreadable(f"{directory_path}: inconsistent")
-    if not current and (temporary == ["removed.tmp"]) != previous:
-        raise Unreadable(f"{directory_path}: inconsistent")
-    if current and temporary == ["removed.tmp"] and previous:
+    # Where more than one temporary folder is there, none of these rows has them.
+    inconsistent = {
+        (): previous and not current,
+        ("previous.tmp",): previous,
+        ("removed.tmp",): previous == current,
+        ("finalized.tmp",): previous,
+        ("lastcheckpoint.tmp",): False,
+    }
+    if inconsistent.get(tuple(temporary), True):
         raise Unreadable(f"{directory_path}: inconsistent")
     if current:
         return os.path.join(directory_path, "current")
